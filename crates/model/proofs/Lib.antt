@@ -1,0 +1,5 @@
+pub mod Tests
+pub mod Lists
+pub mod Words
+pub mod Memory
+pub mod Edges

@@ -1,0 +1,176 @@
+-- The laws of `put` and `part`. Each goes by the clauses of `put`, and needs no bound unless it says so.
+use Prim.Native.Nat.{ℕ, zero, suc, _+_, _-_, _≤_, _<_, min}
+use native.Mathlib.Omega.{arith}
+use native.Mathlib.Nat.{add-zero, zero-add, add-suc, suc-add, add-assoc}
+use native.Mathlib.Numerals.{add-one}
+use mathlib.Core.Path.{_≡_, refl, sym, ap, _∙_}
+use mathlib.Core.List.{List, [], _∷_, _++_, append-assoc}
+use lib.ListN.{length, getD, take, drop, set, length-append, length-take, length-drop, length-set}
+use lib.Seq.{getD-take, getD-drop, take-suc, drop-drop, take-take, take-add, ext-getD, take-all, drop-nil, take-nil}
+use Rattle.model.specs.Bytes.{put, part}
+
+-- place i lies outside the n places from a on
+pub data Apart (i a n : ℕ) : Type 0 where
+  below : i < a → Apart i a n
+  above : a + n ≤ i → Apart i a n
+
+-- two ranges with no place in common
+pub data Disjoint (a n b k : ℕ) : Type 0 where
+  first : a + n ≤ b → Disjoint a n b k
+  after : b + k ≤ a → Disjoint a n b k
+
+pub length-put : (m : List ℕ) (k : ℕ) (bs : List ℕ) → length (put m k bs) ≡ length m
+unfolding put
+length-put [] k bs = refl
+length-put (x ∷ m) (suc k) bs = ap suc (length-put m k bs)
+length-put (x ∷ m) zero [] = refl
+length-put (x ∷ m) zero (b ∷ bs) = ap suc (length-put m zero bs)
+
+pub put-nil : (m : List ℕ) (k : ℕ) → put m k [] ≡ m
+unfolding put
+put-nil [] k = refl
+put-nil (x ∷ m) (suc k) = ap (λ (l : List ℕ). x ∷ l) (put-nil m k)
+put-nil (x ∷ m) zero = refl
+
+pub put-below : (m : List ℕ) (k : ℕ) (bs : List ℕ) (i : ℕ) → i < k → getD (put m k bs) i 0 ≡ getD m i 0
+unfolding put
+put-below [] k bs i h = refl
+put-below (x ∷ m) (suc k) bs zero h = refl
+put-below (x ∷ m) (suc k) bs (suc i) h = put-below m k bs i (omega arith)
+put-below (x ∷ m) zero [] i h = refl
+put-below (x ∷ m) zero (b ∷ bs) i h = absurd (omega arith)
+
+pub put-above : (m : List ℕ) (k : ℕ) (bs : List ℕ) (i : ℕ) → k + length bs ≤ i → getD (put m k bs) i 0 ≡ getD m i 0
+unfolding put
+put-above [] k bs i h = refl
+put-above (x ∷ m) (suc k) bs zero h = absurd (omega arith)
+put-above (x ∷ m) (suc k) bs (suc i) h = put-above m k bs i (omega arith)
+put-above (x ∷ m) zero [] i h = refl
+put-above (x ∷ m) zero (b ∷ bs) zero h = absurd (omega arith)
+put-above (x ∷ m) zero (b ∷ bs) (suc i) h = put-above m zero bs i (omega arith)
+
+-- putting changes only those bytes
+pub put-apart : (m : List ℕ) (k : ℕ) (bs : List ℕ) (i : ℕ) → Apart i k (length bs) → getD (put m k bs) i 0 ≡ getD m i 0
+put-apart m k bs i (below h) = put-below m k bs i h
+put-apart m k bs i (above h) = put-above m k bs i h
+
+pub put-in : (m : List ℕ) (k : ℕ) (bs : List ℕ) (j : ℕ) → j < length bs → k + j < length m → getD (put m k bs) (k + j) 0 ≡ getD bs j 0
+unfolding put
+put-in [] k bs j h r = absurd (omega arith)
+put-in (x ∷ m) (suc k) bs j h r = rw suc-add (put-in m k bs j h (omega arith))
+put-in (x ∷ m) zero [] j h r = absurd (omega arith)
+put-in (x ∷ m) zero (b ∷ bs) zero h r = refl
+put-in (x ∷ m) zero (b ∷ bs) (suc j) h r = rw zero-add (rw zero-add at (put-in m zero bs j (omega arith) (omega arith)))
+
+pub length-part : (k n : ℕ) (m : List ℕ) → k + n ≤ length m → length (part k n m) ≡ n
+unfolding part
+length-part k n m h = simp (length-take, length-drop) (omega arith)
+
+pub getD-part : (k n : ℕ) (m : List ℕ) (i : ℕ) → i < n → getD (part k n m) i 0 ≡ getD m (k + i) 0
+unfolding part
+getD-part k n m i h = rw (getD-take, getD-drop)
+
+pub part-zero : (k : ℕ) (m : List ℕ) → part k 0 m ≡ []
+unfolding part
+part-zero k m = refl
+
+-- two memories that agree on a range have the same part there
+pub part-cong : (k n : ℕ) (m₁ m₂ : List ℕ) → length m₁ ≡ length m₂
+    → ((i : ℕ) → k ≤ i → i < k + n → getD m₁ i 0 ≡ getD m₂ i 0) → part k n m₁ ≡ part k n m₂
+unfolding part
+part-cong k n m₁ m₂ e f =
+    ext-getD 0 (take n (drop k m₁)) (take n (drop k m₂)) (simp (length-take, length-drop) (ap (λ (l : ℕ). min n (l - k)) e))
+    (λ i h. let h₂ : i < n = omega (arith, simp (length-take, length-drop) at h) in
+    rw (getD-take n (drop k m₁) i 0 h₂, getD-take n (drop k m₂) i 0 h₂, getD-drop k m₁ i 0, getD-drop k m₂ i 0) (f (k + i) (omega arith) (omega arith)))
+
+-- read what was put
+pub part-put : (m : List ℕ) (k n : ℕ) (bs : List ℕ) → length bs ≡ n → k + n ≤ length m → part k n (put m k bs) ≡ bs
+part-put m k n bs e h =
+    ext-getD 0 (part k n (put m k bs)) bs (length-part k n (put m k bs) (rw length-put h) ∙ sym e)
+    (λ i l. let l₂ : i < n = omega (arith, length-part k n (put m k bs) (rw length-put h)) in
+    getD-part k n (put m k bs) i l₂ ∙ put-in m k bs i (omega arith) (omega arith))
+
+pub part-put-other : (m : List ℕ) (k n j : ℕ) (bs : List ℕ) → Disjoint k n j (length bs) → part k n (put m j bs) ≡ part k n m
+part-put-other m k n j bs (first h) = part-cong k n (put m j bs) m (length-put m j bs) (λ i l u. put-below m j bs i (omega arith))
+part-put-other m k n j bs (after h) = part-cong k n (put m j bs) m (length-put m j bs) (λ i l u. put-above m j bs i (omega arith))
+
+drop-put : (m : List ℕ) (d k : ℕ) (bs : List ℕ) → drop d (put m (d + k) bs) ≡ put (drop d m) k bs
+unfolding put
+drop-put [] d k bs = rw (drop-nil d)
+drop-put (x ∷ m) zero k bs = rw zero-add
+drop-put (x ∷ m) (suc d) k bs = rw suc-add (drop-put m d k bs)
+
+take-put : (m : List ℕ) (n k : ℕ) (bs : List ℕ) → take n (put m k bs) ≡ put (take n m) k bs
+unfolding put
+take-put [] n k bs = rw (take-nil n)
+take-put (x ∷ m) zero k bs = refl
+take-put (x ∷ m) (suc n) (suc k) bs = ap (λ (l : List ℕ). x ∷ l) (take-put m n k bs)
+take-put (x ∷ m) (suc n) zero [] = refl
+take-put (x ∷ m) (suc n) zero (b ∷ bs) = ap (λ (l : List ℕ). b ∷ l) (take-put m n zero bs)
+
+-- a part evolves by itself
+pub part-put-in : (m : List ℕ) (d n k : ℕ) (bs : List ℕ) → part d n (put m (d + k) bs) ≡ put (part d n m) k bs
+unfolding part
+part-put-in m d n k bs = ap (take n) (drop-put m d k bs) ∙ take-put (drop d m) n k bs
+
+pub part-part : (o a n k : ℕ) (m : List ℕ) → a + k ≤ n → part a k (part o n m) ≡ part (o + a) k m
+unfolding part
+part-part o a n k m h =
+    ext-getD 0 (take k (drop a (take n (drop o m)))) (take k (drop (o + a) m)) (simp (length-take, length-drop) (omega arith))
+    (λ i l. let l₂ : i < k = omega (arith, simp (length-take, length-drop) at l) in
+    rw (
+      getD-take k (drop a (take n (drop o m))) i 0 l₂,
+      getD-take k (drop (o + a) m) i 0 l₂,
+      getD-drop a (take n (drop o m)) i 0,
+      getD-drop (o + a) m i 0,
+      getD-take n (drop o m) (a + i) 0 (omega arith),
+      getD-drop o m (a + i) 0,
+      add-assoc o a i,
+    ))
+
+-- a part with one element more
+pub part-more : (f i : ℕ) (s : List ℕ) → f + i < length s → part f i s ++ (getD s (f + i) 0 ∷ []) ≡ part f (suc i) s
+unfolding part
+part-more f i s h =
+    let l : i < length (drop f s) = simp length-drop (omega arith) in
+    rw (← (getD-drop f s i 0)) (sym (take-suc (drop f s) i 0 l))
+
+pub part-add : (k a b : ℕ) (m : List ℕ) → part k a m ++ part (k + a) b m ≡ part k (a + b) m
+unfolding part
+part-add k a b m = rw (take-add a b (drop k m), drop-drop a k m)
+
+pub put-one : (m : List ℕ) (k x : ℕ) → put m k (x ∷ []) ≡ set m k x
+unfolding put
+put-one [] k x = refl
+put-one (y ∷ m) (suc k) x = ap (λ (l : List ℕ). y ∷ l) (put-one m k x)
+put-one (y ∷ m) zero x = ap (λ (l : List ℕ). x ∷ l) (put-nil m zero)
+
+-- one put after another, side by side, is one put
+pub put-put : (m : List ℕ) (k : ℕ) (cs bs : List ℕ) → put (put m k cs) (k + length cs) bs ≡ put m k (cs ++ bs)
+unfolding put
+put-put [] k cs bs = refl
+put-put (x ∷ m) (suc k) cs bs = rw suc-add (ap (λ (l : List ℕ). x ∷ l) (put-put m k cs bs))
+put-put (x ∷ m) zero [] bs = refl
+put-put (x ∷ m) zero (c ∷ cs) bs = rw zero-add (ap (λ (l : List ℕ). c ∷ l) (rw zero-add at (put-put m zero cs bs)))
+
+pub put-set : (m : List ℕ) (k : ℕ) (bs : List ℕ) (x : ℕ) → set (put m k bs) (k + length bs) x ≡ put m k (bs ++ (x ∷ []))
+put-set m k bs x = sym (put-one (put m k bs) (k + length bs) x) ∙ put-put m k bs (x ∷ [])
+
+-- a copying loop's turn: one element more of the source's part
+pub put-copy : (m : List ℕ) (k : ℕ) (s : List ℕ) (f i : ℕ) → f + i < length s
+    → set (put m k (part f i s)) (k + i) (getD s (f + i) 0) ≡ put m k (part f (suc i) s)
+put-copy m k s f i h =
+    let e : length (part f i s) ≡ i = length-part f i s (omega arith) in
+    let q : part f i s ++ (getD s (f + i) 0 ∷ []) ≡ part f (suc i) s = part-more f i s h in
+    rw (← q) (rw e at (put-set m k (part f i s) (getD s (f + i) 0)))
+
+-- one store, then the rest behind it
+pub put-cons : (m : List ℕ) (k b : ℕ) (bs : List ℕ) → put m k (b ∷ bs) ≡ put (set m k b) (suc k) bs
+unfolding put
+put-cons [] k b bs = refl
+put-cons (x ∷ m) (suc k) b bs = ap (λ (l : List ℕ). x ∷ l) (put-cons m k b bs)
+put-cons (x ∷ m) zero b bs = refl
+
+pub part-all : (m : List ℕ) → part 0 (length m) m ≡ m
+unfolding part
+part-all m = take-all (length m) m (omega arith)
