@@ -3,3 +3,5 @@ pub mod Lists
 pub mod Words
 pub mod Memory
 pub mod Edges
+pub mod Ring
+pub mod Chain

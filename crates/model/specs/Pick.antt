@@ -8,3 +8,7 @@ pick false a b = b
 abbrev pub both : Bool → Bool → Bool
 both true b = b
 both false b = false
+
+abbrev pub either : Bool → Bool → Bool
+either true b = true
+either false b = b

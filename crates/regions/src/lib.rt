@@ -27,7 +27,7 @@ pub fn region_code(m: usize, g: usize, l: usize, o: usize) -> usize
     0
 }
 
-fn overlaps(g: usize, l: usize, h: usize, k: usize) -> bool
+pub fn overlaps(g: usize, l: usize, h: usize, k: usize) -> bool
     ensures { λ r. ⌜ r ≡ overlap g l h k ⌝ }
 {
     if g < h {
