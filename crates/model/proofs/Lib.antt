@@ -5,3 +5,5 @@ pub mod Memory
 pub mod Edges
 pub mod Ring
 pub mod Chain
+pub mod Step
+pub mod Sane

@@ -5,7 +5,10 @@ use native.Mathlib.Nat.{add-zero, zero-add, add-suc, suc-add, add-assoc}
 use native.Mathlib.Numerals.{add-one}
 use mathlib.Core.Path.{_≡_, refl, sym, ap, _∙_}
 use mathlib.Core.List.{List, [], _∷_, _++_, append-assoc}
-use lib.ListN.{length, getD, take, drop, set, length-append, length-take, length-drop, length-set}
+use mathlib.Core.Bool.{Bool, true, false}
+use lib.Dec.{leb}
+use borrow.Author.Tests.{leb-true, leb-false}
+use lib.ListN.{length, getD, take, drop, set, length-append, length-take, length-drop, length-set, drop-of-length-le}
 use lib.Seq.{getD-take, getD-drop, take-suc, drop-drop, take-take, take-add, ext-getD, take-all, drop-nil, take-nil}
 use Rattle.model.specs.Bytes.{put, part}
 
@@ -174,3 +177,38 @@ put-cons (x ∷ m) zero b bs = refl
 pub part-all : (m : List ℕ) → part 0 (length m) m ≡ m
 unfolding part
 part-all m = take-all (length m) m (omega arith)
+
+-- the first l elements of a part, and the others
+pub take-part : (k n l : ℕ) (m : List ℕ) → take l (part k n m) ≡ part k (min l n) m
+unfolding part
+take-part k n l m =
+    ext-getD 0 (take l (take n (drop k m))) (take (min l n) (drop k m)) (simp (length-take, length-drop) (omega arith))
+    (λ i h. let u : i < min l n = omega (arith, simp (length-take, length-drop) at h) in
+    rw (getD-take l (take n (drop k m)) i 0 (omega arith), getD-take n (drop k m) i 0 (omega arith), getD-take (min l n) (drop k m) i 0 u))
+
+drop-part-le : (k n l : ℕ) (m : List ℕ) → l ≤ n → drop l (part k n m) ≡ part (k + l) (n - l) m
+unfolding part
+drop-part-le k n l m h =
+    ext-getD 0 (drop l (take n (drop k m))) (take (n - l) (drop (k + l) m)) (simp (length-take, length-drop) (omega arith))
+    (λ i u. let v : l + i < n = omega (arith, simp (length-take, length-drop) at u) in
+    rw (
+      getD-drop l (take n (drop k m)) i 0,
+      getD-take n (drop k m) (l + i) 0 v,
+      getD-drop k m (l + i) 0,
+      getD-take (n - l) (drop (k + l) m) i 0 (omega arith),
+      getD-drop (k + l) m i 0,
+      add-assoc k l i,
+    ))
+
+drop-part-gt : (k n l : ℕ) (m : List ℕ) → n ≤ l → drop l (part k n m) ≡ part (k + n) (n - n) m
+unfolding part
+drop-part-gt k n l m h =
+    let e : n - n ≡ 0 = omega arith in
+    rw e (drop-of-length-le (take n (drop k m)) {i = l} (simp (length-take, length-drop) (omega arith)))
+
+pub drop-part : (k n l : ℕ) (m : List ℕ) → drop l (part k n m) ≡ part (k + min l n) (n - min l n) m
+drop-part k n l m = split (leb l n) refl
+  where
+    split : (b : Bool) → leb l n ≡ b → drop l (part k n m) ≡ part (k + min l n) (n - min l n) m
+    split true t = let e : min l n ≡ l = omega (arith, leb-true l n t) in rw e (drop-part-le k n l m (leb-true l n t))
+    split false t = let e : min l n ≡ n = omega (arith, leb-false l n t) in rw e (drop-part-gt k n l m (omega (arith, leb-false l n t)))

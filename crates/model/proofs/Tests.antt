@@ -29,3 +29,10 @@ both-r false b e = let z : _≡_ {A = Bool} true false = cc in cc
 pub passed : (b : Bool) (x : ℕ) {y : ℕ} → pick b x y ≡ 0 → 0 < x → (b ≡ false) × (y ≡ 0)
 passed true x e h = absurd (omega arith)
 passed false x e h = (refl, e)
+
+pub both-split : (a b : Bool) → both a b ≡ true → (a ≡ true) × (b ≡ true)
+both-split a b e = (both-l a b e, both-r a b e)
+
+pub picked : (a b : Bool) → pick a b false ≡ true → (a ≡ true) × (b ≡ true)
+picked true b e = (refl, e)
+picked false b e = (e, let z : _≡_ {A = Bool} true false = cc in cc)

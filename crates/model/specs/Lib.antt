@@ -5,3 +5,4 @@ pub mod Ring
 pub mod Chain
 pub mod Request
 pub mod Step
+pub mod Sane

@@ -89,7 +89,7 @@ pub fn verdict(d: Disk, kind: usize, sector: usize, r: usize, w: usize) -> Job
     Job::Unsupported
 }
 
-pub fn status(job: Job) -> usize
+pub fn status(job: Job) -> u8
     ensures { λ z. ⌜ z ≡ status job ⌝ }
 {
     match job {
