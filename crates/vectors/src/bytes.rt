@@ -15,23 +15,31 @@ fn told(name: &[u8], n: usize) {
     say::line();
 }
 
-pub fn numbers() {
+pub fn numbers16() {
     let mut m = [0xeeu8; 10];
     wire::put16(&mut m, 1, 0x0102);
     show(b"put16 0x0102 at 1", &m);
     told(b"get16 at 1", wire::get16(&m, 1));
+    wire::put16(&mut m, 8, 65536 + 7);
+    show(b"put16 65536 + 7 at 8, the last place", &m);
+}
+
+pub fn numbers32() {
+    let mut m = [0xeeu8; 10];
     wire::put32(&mut m, 1, 0x0102_0304);
     show(b"put32 0x01020304 at 1", &m);
     told(b"get32 at 1", wire::get32(&m, 1));
     told(b"get32 at 2", wire::get32(&m, 2));
+}
+
+pub fn numbers64() {
+    let mut m = [0xeeu8; 10];
     wire::put64(&mut m, 1, 0x0102_0304_0506_0708);
     show(b"put64 0x0102030405060708 at 1", &m);
     told(b"get64 at 1", wire::get64(&m, 1));
     wire::put64(&mut m, 1, 0xffff_ffff_ffff_ffff);
     show(b"put64 2^64 - 1 at 1", &m);
     told(b"get64 at 1", wire::get64(&m, 1));
-    wire::put16(&mut m, 8, 65536 + 7);
-    show(b"put16 65536 + 7 at 8, the last place", &m);
 }
 
 pub fn copies() {

@@ -12,6 +12,8 @@ fn main() {
     setup::kept();
     ranges::one_region();
     ranges::two_regions();
-    bytes::numbers();
+    bytes::numbers16();
+    bytes::numbers32();
+    bytes::numbers64();
     bytes::copies();
 }
