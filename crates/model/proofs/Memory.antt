@@ -9,7 +9,7 @@ use mathlib.Core.List.{List, [], _∷_, _++_}
 use lib.ListN.{length, getD, take, drop, length-drop}
 use lib.Dec.{leb, ltb, eqb}
 use lib.Seq.{drop-cons}
-use borrow.Author.Tests.{leb-true, ltb-true, ltb-false, eqb-true, eqb-false, eq-eqb, ne-eqb}
+use borrow.Author.Tests.{leb-true, ltb-true, ltb-false, eqb-true, eqb-false, eq-eqb, ne-eqb, le-leb}
 use Rattle.model.specs.Pick.{pick, both}
 use Rattle.model.specs.Memory.{Region, region, regions, regionCode, overlap, clash, regionsCode, memoryCode, sound, contains, locate}
 use Rattle.model.specs.declared.Found.{Found}
@@ -112,6 +112,23 @@ in-slice m (r ∷ rest) a n x s (later w) = in-slice m rest a n x (sound-head (r
 
 pub locate-slice : (m : ℕ) (rs : List Region) (a n x : ℕ) → sound m rs ≡ true → locate rs a n ≡ At x → x + n ≤ m
 locate-slice m rs a n x s e = in-slice m rs a n x s (locate-in rs a n x e)
+
+-- the other way round: a region contains each range that lies inside it ..
+pub within-contains : (r : Region) (a n x : ℕ) → Within r a n x → contains (r .guest) (r .len) a n ≡ true
+unfolding contains
+within-contains r a n x w = rw (le-leb 1 n (w .some), le-leb (r .guest) a (w .from), le-leb (a + n) (r .guest + r .len) (w .to))
+
+-- .. so a range that is nowhere lies inside no region
+pub locate-out : (rs : List Region) (a n x : ℕ) → locate rs a n ≡ Nothing → InOne rs a n x → ⊥
+unfolding locate
+locate-out (r ∷ rest) a n x e (here w) =
+    let k : At (r .place + (a - r .guest)) ≡ Nothing = rw (within-contains r a n x w) at e in
+    let z : _≡_ {A = ℕ} 0 1 = cc in absurd (omega arith)
+locate-out (r ∷ rest) a n x e (later w) = split (contains (r .guest) (r .len) a n) e (λ k. locate-out rest a n x k w)
+  where
+    split : (b : Bool) → pick b (At (r .place + (a - r .guest))) (locate rest a n) ≡ Nothing → (locate rest a n ≡ Nothing → ⊥) → ⊥
+    split true k f = let z : _≡_ {A = ℕ} 0 1 = cc in absurd (omega arith)
+    split false k f = f k
 
 -- set-up's 0 makes every region sound
 pub code-sound : (m : ℕ) (seen rs : List Region) → regionsCode m seen rs ≡ 0 → sound m rs ≡ true

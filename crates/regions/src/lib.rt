@@ -16,10 +16,10 @@ pub fn region_code(m: usize, g: usize, l: usize, o: usize) -> usize
         return 21;
     }
     if m < l {
-        return 22;
+        return 22; // longer than the slice
     }
     if m - l < o {
-        return 22;
+        return 22; // ends after it
     }
     if 0xffff_ffff_ffff_ffff - l < g {
         return 23;

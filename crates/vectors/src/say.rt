@@ -1,0 +1,29 @@
+// Printing: text, numbers and bytes to standard output. A failed write is not reported: there is nobody to tell.
+
+pub fn text(b: &[u8]) {
+    io::write_all(1, b);
+}
+
+pub fn number(n: usize) {
+    io::print_decimal(1, n as u64);
+}
+
+// Each byte as two digits, with a space between: 04 03 02 01
+pub fn hex(b: &[u8]) {
+    let mut i = 0;
+    while i < b.len() {
+        if 0 < i {
+            text(b" ");
+        }
+        digits(b[i]);
+        i += 1;
+    }
+}
+
+fn digits(x: u8) {
+    io::print_hex(1, x as u64, 2);
+}
+
+pub fn line() {
+    text(b"\n");
+}
