@@ -1,1 +1,2 @@
 pub mod Identity
+pub mod Fit

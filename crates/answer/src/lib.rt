@@ -6,9 +6,10 @@ ghost use Prim.Native.Nat.{_+_, _-_, _*_, _≤_, _<_, min};
 ghost use lib.ListN.{length};
 ghost use Rattle.model.specs.Bytes.{put, part, bytes};
 ghost use Rattle.model.specs.Request.{status, reported};
-ghost use Rattle.model.specs.Step.{spans, scatter, apply, writables, handed, statusAt, usedAt, diskOf, memStores};
+ghost use Rattle.model.specs.Step.{spans, scatter, apply, writables, handed, diskOf, answerStores};
 ghost use Rattle.model.specs.Sane.{allInside, jobOk};
 ghost use Rattle.answer.specs.Identity.{idBytes};
+ghost use Rattle.answer.specs.Fit.{AnswerFit};
 use model::Disk;
 use model::Job;
 use model::Queue;
@@ -69,4 +70,76 @@ fn spread_identity(
     wire::put64(&mut id, 8, id1);
     wire::put32(&mut id, 16, id2);
     spread(&id, 0, 20, chain, first, end, mem);
+}
+
+// What the request gets before its last writable byte: sectors, the identity, or nothing.
+fn hand(
+    disk: Disk,
+    id0: usize,
+    id1: usize,
+    id2: usize,
+    k: Walk,
+    job: Job,
+    chain: &[usize],
+    backing: &[u8],
+    mem: &mut [u8],
+)
+    requires { ⌜ disk .start + 512 * disk .sectors ≤ length (now backing) ⌝ }
+    requires { ⌜ 1 ≤ k .w ⌝ }
+    requires { ⌜ jobOk (disk .sectors) k job ≡ true ⌝ }
+    requires { ⌜ 2 * k .count ≤ length (now chain) ⌝ }
+    requires { ⌜ allInside (length (now mem)) (writables (now chain) k) ≡ true ⌝ }
+    ensures { λ _. ⌜ now (mem .exit) ≡ apply (scatter (writables (now (chain .entry)) k) (handed (idBytes id0 id1 id2) (diskOf disk (now (backing .entry))) k job)) (now (mem .entry)) ⌝ }
+{
+    match job {
+        Job::Failed => {}
+        Job::Unsupported => {}
+        Job::Done => {}
+        Job::Read(s) => {
+            spread(
+                backing,
+                disk.start + 512 * s,
+                k.w - 1,
+                chain,
+                k.reads,
+                k.count,
+                mem,
+            );
+        }
+        Job::Write(_) => {}
+        Job::Identity => {
+            spread_identity(id0, id1, id2, chain, k.reads, k.count, mem);
+        }
+    }
+}
+
+// The writes of an answer, later ones winning: data, the status byte, the used entry.
+pub fn reply(
+    queue: Queue,
+    disk: Disk,
+    id0: usize,
+    id1: usize,
+    id2: usize,
+    answered: usize,
+    k: Walk,
+    job: Job,
+    chain: &[usize],
+    backing: &[u8],
+    mem: &mut [u8],
+)
+    requires { ⌜ AnswerFit queue disk k job (now chain) (length (now backing)) (length (now mem)) ⌝ }
+    ensures { λ _. ⌜ now (mem .exit) ≡ apply (answerStores (idBytes id0 id1 id2) queue answered (now (chain .entry)) (diskOf disk (now (backing .entry))) k job) (now (mem .entry)) ⌝ }
+{
+    hand(disk, id0, id1, id2, k, job, chain, backing, mem);
+    let last = k.count - 1;
+    let at = chain[2 * last] + (chain[2 * last + 1] - 1);
+    let status = request::status(job);
+    mem[at] = status;
+    ring::used_entry(
+        mem,
+        queue,
+        answered,
+        k.head,
+        request::reported(status as usize, k.w),
+    );
 }

@@ -9,7 +9,7 @@ ghost use Rattle.model.specs.Memory.{regions, sound};
 ghost use Rattle.model.specs.Ring.{polled, headed, oneMore};
 ghost use Rattle.model.specs.Chain.{descAt, tested, described, keeps};
 ghost use Rattle.model.specs.Step.{codeAfter, step};
-ghost use Rattle.model.specs.Sane.{sane, ready};
+ghost use Rattle.device.specs.Turn.{Fit, Went, Met, cfgOf, stateOf};
 use model::Disk;
 use model::Phase;
 use model::Queue;
@@ -107,12 +107,76 @@ fn code_after(p: Phase) -> usize
 
 // A step that publishes nothing: the counters stay.
 fn went(taken: usize, answered: usize, p: Phase) -> Turned
-    ensures { λ r. ⌜ (r .taken ≡ taken) × (r .answered ≡ answered) × (r .phase ≡ p) × (r .code ≡ codeAfter p) ⌝ }
+    ensures { λ r. ⌜ Went taken answered p r ⌝ }
 {
     Turned {
         taken,
         answered,
         phase: p,
         code: code_after(p),
+    }
+}
+
+// One step. Each arm copies what it wants, hands it to a function that decides, or writes what was decided.
+pub fn turn(
+    c: Config,
+    taken: usize,
+    answered: usize,
+    p: Phase,
+    map: &[usize],
+    mem: &mut [u8],
+    backing: &mut [u8],
+    chain: &mut [usize],
+    stage: &mut [u8],
+) -> Turned
+    requires { ⌜ Fit c taken answered p (now map) (length (now mem)) (length (now backing)) (now chain) (length (now stage)) ⌝ }
+    ensures { λ r. ⌜ Met (step (cfgOf c (now (map .entry))) (stateOf taken answered p) (now (mem .entry)) (now (backing .entry)) (now (chain .entry)) (now (stage .entry))) r (now (mem .exit)) (now (backing .exit)) (now (chain .exit)) (now (stage .exit)) ⌝ }
+{
+    let q = c.queue;
+    let d = c.disk;
+    match p {
+        Phase::Poll => went(taken, answered, poll(q, taken, mem)),
+        Phase::Entry => went(taken, answered, entry(q, taken, mem)),
+        Phase::Chain(k, cur) => went(taken, answered, descriptor(q, map, c.m, k, cur, mem, chain)),
+        Phase::Header(k, at, got) => went(
+            taken,
+            answered,
+            gather::header(d, k, at, got, chain, mem, stage),
+        ),
+        Phase::Payload(k, at, s, got) => went(
+            taken,
+            answered,
+            gather::payload(d, k, at, s, got, chain, mem, stage, backing),
+        ),
+        Phase::Answer(k, job, got) => {
+            answer::reply(
+                q,
+                d,
+                c.id0,
+                c.id1,
+                c.id2,
+                answered,
+                k,
+                job,
+                chain,
+                backing,
+                mem,
+            );
+            went(taken, answered, Phase::Publish(k, got))
+        }
+        Phase::Publish(_, _) => {
+            publish(q, answered, mem);
+            Turned {
+                taken: ring::one_more(taken),
+                answered: ring::one_more(answered),
+                phase: Phase::Poll,
+                code: 2,
+            }
+        }
+        Phase::Broken(reason, head, count) => went(
+            taken,
+            answered,
+            Phase::Broken(reason, head, count),
+        ),
     }
 }

@@ -15,6 +15,7 @@ use Rattle.model.specs.Sane.{walkOk, fullOk, jobOk, sane, inside, allIns
 use Rattle.model.specs.declared.Walk.{Walk}
 use Rattle.model.specs.declared.Place.{Place}
 use Rattle.model.specs.declared.Job.{Job}
+use Rattle.model.specs.declared.Job.the-variants.{Read}
 use Rattle.model.specs.declared.Phase.the-variants.{Chain, Header, Payload, Answer, Publish}
 use Rattle.model.proofs.Tests.{told, both-split, picked}
 use Rattle.model.proofs.Step.{spans-turn, spans-end}
@@ -145,3 +146,7 @@ pub inside-at : (m i e : ℕ) (chain : List ℕ) (d : ℕ) → i + d < e → all
 inside-at m i e chain zero h t = rw (add-zero i) (inside-here m i e chain (omega arith) t)
 inside-at m i e chain (suc d) h t =
     let p : i + suc d ≡ i + 1 + d = omega arith in rw p (inside-at m (i + 1) e chain d (omega arith) (inside-rest m i e chain (omega arith) t))
+
+pub read-fits : (sectors : ℕ) (k : Walk) (s : ℕ) → jobOk sectors k (Read s) ≡ true → Fits (k .w - 1) s sectors
+unfolding jobOk
+read-fits sectors k s e = fits-ok (k .w - 1) s sectors e

@@ -45,16 +45,16 @@ buffer chain i = record { at = getD chain (2 * i) 0; len = getD chain (2 * i + 1
 abbrev pub left : List ℕ → Place → Span
 left chain p = record { at = getD chain (2 * p .buf) 0 + p .skip; len = getD chain (2 * p .buf + 1) 0 - p .skip }
 
-unfoldable pub onward : List ℕ → Place → ℕ → Place
-onward chain p n = pick (eqb n (left chain p .len)) (record { buf = p .buf + 1; skip = 0 }) (record { buf = p .buf; skip = p .skip + n })
+unfoldable pub onward : Place → ℕ → ℕ → Place
+onward p l n = pick (eqb n l) (record { buf = p .buf + 1; skip = 0 }) (record { buf = p .buf; skip = p .skip + n })
 
 -- S4: "as many as the 16-byte header still lacks, at most what the buffer has"
-abbrev pub lacks : List ℕ → Place → ℕ → ℕ
-lacks chain p got = min (16 - got) (left chain p .len)
+abbrev pub lacks : ℕ → ℕ → ℕ
+lacks got l = min (16 - got) l
 
--- S5: the buffer at this place holds the payload's last byte
-unfoldable pub ends : List ℕ → Walk → Place → ℕ → Bool
-ends chain k p got = eqb (got + left chain p .len) (k .r - 16)
+-- S5: the l bytes that are left of the buffer are the payload's last ones
+unfoldable pub ends : Walk → ℕ → ℕ → Bool
+ends k got l = eqb (got + l) (k .r - 16)
 
 abbrev pub nowhere : Span
 nowhere = record { at = 0; len = 0 }
@@ -64,26 +64,30 @@ unfoldable pub want : Cfg → ℕ → List ℕ → Phase → Span
 want c taken chain Poll = record { at = c .queue .avail + 2; len = 2 }
 want c taken chain Entry = record { at = c .queue .avail + (4 + 2 * (taken % c .queue .size)); len = 2 }
 want c taken chain (Chain k cur) = record { at = c .queue .desc + 16 * cur; len = 16 }
-want c taken chain (Header k p got) = record { at = left chain p .at; len = lacks chain p got }
+want c taken chain (Header k p got) = record { at = left chain p .at; len = lacks got (left chain p .len) }
 want c taken chain (Payload k p sector got) = left chain p
 want c taken chain (Answer k job got) = nowhere
 want c taken chain (Publish k got) = nowhere
 want c taken chain (Broken reason head count) = nowhere
 
--- S4: "header not complete: S4 at the next buffer · complete: decide". The header is gathered in the first 16 bytes of staging memory.
-unfoldable pub gathered : Disk → List ℕ → Walk → Place → ℕ → List ℕ → Phase
-gathered d chain k p got stage =
-    pick (ltb (got + lacks chain p got) 16) (Header k (onward chain p (lacks chain p got)) (got + lacks chain p got))
-    (decided k (onward chain p (lacks chain p got)) (verdict d (word 4 0 stage) (word 8 8 stage) (k .r) (k .w)))
+-- The header is gathered in the first 16 bytes of staging memory.
+-- S4: "header not complete: S4 at the next buffer · complete: decide", n bytes of l having been fetched; type and sector are the header's
+unfoldable pub gathered : Disk → Walk → Place → ℕ → ℕ → ℕ → ℕ → ℕ → Phase
+gathered d k p got l n type sector =
+    pick (ltb (got + n) 16) (Header k (onward p l n) (got + n)) (decided k (onward p l n) (verdict d type sector (k .r) (k .w)))
+
+-- S5: "n bytes not yet complete: S5 at the next buffer · complete: S6"
+unfoldable pub paid : Walk → Place → ℕ → ℕ → ℕ → Phase
+paid k p sector got l = pick (ends k got l) (Answer k Done (k .r)) (Payload k (record { buf = p .buf + 1; skip = 0 }) sector (got + l))
 
 -- The column "goes on to": the decisions. They see the bytes fetched in this step and private memory: no guest memory, no disk.
 unfoldable pub next : Cfg → ℕ → List ℕ → List ℕ → Phase → List ℕ → Phase
 next c taken chain stage Poll f = polled (c .queue .size) taken (word 2 0 f)
 next c taken chain stage Entry f = headed (c .queue .size) (word 2 0 f)
 next c taken chain stage (Chain k cur) f = described k (descAt 0 f) (tested (c .map) (c .queue .size) k (descAt 0 f))
-next c taken chain stage (Header k p got) f = gathered (c .disk) chain k p got (put stage got f)
-next c taken chain stage (Payload k p sector got) f =
-    pick (ends chain k p got) (Answer k Done (k .r)) (Payload k (record { buf = p .buf + 1; skip = 0 }) sector (got + left chain p .len))
+next c taken chain stage (Header k p got) f =
+    gathered (c .disk) k p got (left chain p .len) (lacks got (left chain p .len)) (word 4 0 (put stage got f)) (word 8 8 (put stage got f))
+next c taken chain stage (Payload k p sector got) f = paid k p sector got (left chain p .len)
 next c taken chain stage (Answer k job got) f = Publish k got
 next c taken chain stage (Publish k got) f = Poll
 next c taken chain stage (Broken reason head count) f = Broken reason head count
@@ -104,7 +108,7 @@ staged chain stage Poll f = stage
 staged chain stage Entry f = stage
 staged chain stage (Chain k cur) f = stage
 staged chain stage (Header k p got) f = put stage got f
-staged chain stage (Payload k p sector got) f = pick (ends chain k p got) stage (put stage got f)
+staged chain stage (Payload k p sector got) f = pick (ends k got (left chain p .len)) stage (put stage got f)
 staged chain stage (Answer k job got) f = stage
 staged chain stage (Publish k got) f = stage
 staged chain stage (Broken reason head count) f = stage
@@ -121,7 +125,7 @@ effect chain stage Poll f = nothing
 effect chain stage Entry f = nothing
 effect chain stage (Chain k cur) f = nothing
 effect chain stage (Header k p got) f = nothing
-effect chain stage (Payload k p sector got) f = pick (ends chain k p got) (stores (512 * sector) (part 0 got stage ++ f)) nothing
+effect chain stage (Payload k p sector got) f = pick (ends k got (left chain p .len)) (stores (512 * sector) (part 0 got stage ++ f)) nothing
 effect chain stage (Answer k job got) f = answers k job
 effect chain stage (Publish k got) f = publishes
 effect chain stage (Broken reason head count) f = nothing
@@ -165,14 +169,18 @@ statusAt chain k = getD chain (2 * (k .count - 1)) 0 + (getD chain (2 * (k .coun
 abbrev pub usedAt : Queue → ℕ → ℕ
 usedAt q answered = q .used + (4 + 8 * (answered % q .size))
 
--- 01 §5: "payload in chain order, then status, then the used entry, then idx", idx in a step of its own
+-- 01 §5: "payload in chain order, then status, then the used entry"
+unfoldable pub answerStores : List ℕ → Queue → ℕ → List ℕ → List ℕ → Walk → Job → List Store
+answerStores id q answered chain disk k job =
+    scatter (writables chain k) (handed id disk k job)
+    ++ (record { to = statusAt chain k; bytes = status job ∷ [] }
+    ∷ record { to = usedAt q answered; bytes = bytes 4 (k .head) ++ bytes 4 (reported (status job) (k .w)) } ∷ [])
+
+-- ".. then idx", in a step of its own
 unfoldable pub memStores : Cfg → ℕ → List ℕ → List ℕ → Effect → List Store
 memStores c answered chain disk nothing = []
 memStores c answered chain disk (stores at bs) = []
-memStores c answered chain disk (answers k job) =
-    scatter (writables chain k) (handed (c .id) disk k job)
-    ++ (record { to = statusAt chain k; bytes = status job ∷ [] }
-    ∷ record { to = usedAt (c .queue) answered; bytes = bytes 4 (k .head) ++ bytes 4 (reported (status job) (k .w)) } ∷ [])
+memStores c answered chain disk (answers k job) = answerStores (c .id) (c .queue) answered chain disk k job
 memStores c answered chain disk publishes = record { to = c .queue .used + 2; bytes = bytes 2 (oneMore answered) } ∷ []
 
 unfoldable pub diskStores : Effect → List Store
