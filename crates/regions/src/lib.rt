@@ -132,14 +132,14 @@ pub fn locate(map: &[usize], m: usize, a: usize, n: usize) -> Found
     Found::Nothing
 }
 
-// The registered words, held at the front of lent memory.
-pub fn keep(held: &mut [usize], words: &[usize])
-    requires { ⌜ length (now words) ≤ length (now held) ⌝ }
-    ensures { λ _. ⌜ now (held .exit) ≡ put (now (held .entry)) 0 (now (words .entry)) ⌝ }
+// The registered words, held in lent memory from `at` on.
+pub fn keep(held: &mut [usize], at: usize, words: &[usize])
+    requires { ⌜ at + length (now words) ≤ length (now held) ⌝ }
+    ensures { λ _. ⌜ now (held .exit) ≡ put (now (held .entry)) at (now (words .entry)) ⌝ }
 {
     let mut i = 0;
     while i < words.len() {
-        held[i] = words[i];
+        held[at + i] = words[i];
         i += 1;
     }
 }

@@ -77,7 +77,7 @@ pub fn how_many() {
 
 pub fn kept() {
     let mut held = [9; 6];
-    regions::keep(&mut held, &[4096, 16, 0]);
+    regions::keep(&mut held, 0, &[4096, 16, 0]);
     say::text(b"three words kept at the front of six:");
     words(&held);
     say::line();

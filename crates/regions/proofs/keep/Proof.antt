@@ -1,13 +1,11 @@
 use native.Mathlib.Numerals.{add-one}
 use native.Mathlib.Nat.{zero-add}
 use denote.Ref.{now}
-use Prim.Native.Nat.{_≤_, _+_, _-_, _%_}
-use mathlib.Core.Path.{_≡_, refl, sym, _∙_}
-use mathlib.Core.Bool.{true, false}
-use lib.ListN.{length, take, drop}
+use Prim.Native.Nat.{_≤_, _+_, _-_}
+use mathlib.Core.Path.{_≡_, refl}
+use lib.ListN.{length, length-set}
 use borrow.Author.Needs.{needs}
 use native.Mathlib.Omega.{arith}
-use lib.ListN.{set, length-set}
 use Rattle.model.specs.Bytes.{put, part}
 use Rattle.model.proofs.Lists.{put-nil, put-copy, part-zero, part-all}
 use Rattle.regions.proofs.keep.Statement.{statement}
@@ -16,48 +14,52 @@ use Rattle.regions.proofs.keep.Reads as reads
 use Rattle.regions.proofs.keep.Lts as lts
 
 abbrev Inv-loop : tie.InvT-loop
-Inv-loop held₀ words i₀ held i = (i ≤ length words) × (length held ≡ length held₀) × (held ≡ put held₀ 0 (part 0 i words))
+Inv-loop held₀ at words i₀ held i = (i ≤ length words) × (length held ≡ length held₀) × (held ≡ put held₀ at (part 0 i words))
 
 abbrev μ-loop : tie.MeasureT-loop
-μ-loop held₀ words i₀ held i = length words - i
+μ-loop held₀ at words i₀ held i = length words - i
 
--- src/lib.rt:133:5
+-- src/lib.rt:141:5
 loop-holds : tie.Need-loop-holds Inv-loop μ-loop
 loop-holds c = (search needs, refl, simp (part-zero, put-nil))
 
--- src/lib.rt:134:19
+-- src/lib.rt:142:24
 mul-held : tie.Need-mul-held Inv-loop μ-loop
 mul-held c = search needs
 
--- src/lib.rt:134:19
+-- src/lib.rt:142:24
 shared-slice-read-held : tie.Need-shared-slice-read-held Inv-loop μ-loop
 shared-slice-read-held c = search needs
 
--- src/lib.rt:134:9
+-- src/lib.rt:142:14
+add-held : tie.Need-add-held Inv-loop μ-loop
+add-held c = search needs
+
+-- src/lib.rt:142:9
 mul-held-2 : tie.Need-mul-held-2 Inv-loop μ-loop
 mul-held-2 c = search needs
 
--- src/lib.rt:134:9
+-- src/lib.rt:142:9
 slice-write-held : tie.Need-slice-write-held Inv-loop μ-loop
 slice-write-held c = search needs
 
--- src/lib.rt:135:9
+-- src/lib.rt:143:9
 add-i : tie.Need-add-i Inv-loop μ-loop
 add-i c = search needs
 
--- src/lib.rt:133:5
+-- src/lib.rt:141:5
 loop-less : tie.Need-loop-less Inv-loop μ-loop
 loop-less c = search needs
 
--- src/lib.rt:133:5
+-- src/lib.rt:141:5
 loop-again : tie.Need-loop-again Inv-loop μ-loop
-loop-again c = let a = c .before .before .before .args in let i = c .before .before .loop .i in let e = put-copy (now (a .held)) 0 (now (a .words)) 0 i (omega arith) in (search needs, simp length-set (omega arith), rw (c .before .before .loop .inv .2, add-one) (rw zero-add at e))
+loop-again c = let a = c .before .before .before .args in let i = c .before .before .loop .i in let e = put-copy (now (a .held)) (a .at) (now (a .words)) 0 i (omega arith) in (search needs, simp length-set (omega arith), rw (c .before .before .loop .inv .2, add-one) (rw zero-add at e))
 
--- src/lib.rt:128:1
+-- src/lib.rt:136:1
 same-length : tie.Need-same-length Inv-loop μ-loop
 same-length c = search needs
 
--- src/lib.rt:128:1
+-- src/lib.rt:136:1
 returns : tie.Need-returns Inv-loop μ-loop
 returns c = let e : c .before .loop .i ≡ length (now (c .before .before .args .words)) = omega arith in rw (part-all) at (rw e at (c .before .loop .inv .2))
 
@@ -70,6 +72,7 @@ keep-spec =
     loop-holds
     mul-held
     shared-slice-read-held
+    add-held
     mul-held-2
     slice-write-held
     add-i

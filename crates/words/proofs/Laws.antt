@@ -1,0 +1,51 @@
+-- What the tests of the words tell; what is saved is found again.
+use Prim.Native.Nat.{ℕ, _+_, _-_, _*_, _^_, _≤_, _<_}
+use mathlib.Core.Bool.{Bool, true, false}
+use mathlib.Core.List.{List, [], _∷_}
+use mathlib.Core.Path.{_≡_, refl, sym, _∙_, ap}
+use native.Mathlib.Omega.{arith}
+use lib.Dec.{leb, ltb, eqb}
+use lib.ListN.{getD, length}
+use borrow.Author.Tests.{eqb-true}
+use Rattle.model.specs.Pick.{pick, both}
+use Rattle.model.specs.Memory.{regions, sound}
+use Rattle.model.specs.Ring.{sizeOk}
+use Rattle.model.specs.Request.{diskCode}
+use Rattle.model.specs.Sane.{sane}
+use Rattle.model.proofs.Tests.{told, both-split}
+use Rattle.model.proofs.Ring.{size-range}
+use Rattle.words.specs.Layout.{mapWords, phaseOf, rowAt, memoryOk, diskOk, queueOk, lentOk, tagsOk, phaseOk, enabledOk, level}
+
+pub record QueueOk (s : List ℕ) : Type 0 where
+  pub size-some : 1 ≤ getD s 34 0
+  pub size-high : getD s 34 0 ≤ 256
+  pub desc-in : getD s 35 0 + 16 * getD s 34 0 ≤ getD s 1 0
+  pub avail-in : getD s 36 0 + (6 + 2 * getD s 34 0) ≤ getD s 1 0
+  pub used-in : getD s 37 0 + (6 + 8 * getD s 34 0) ≤ getD s 1 0
+  pub chain-long : 2 * getD s 34 0 ≤ getD s 38 0
+  pub stage-long : 1048576 ≤ getD s 39 0
+  pub taken-low : getD s 40 0 < 65536
+  pub answered-low : getD s 41 0 < 65536
+
+pub queue-ok : (s : List ℕ) → queueOk s ≡ true → QueueOk s
+unfolding queueOk lentOk
+queue-ok s e =
+    let a = both-split (sizeOk (getD s 34 0)) _ e in
+    let b = both-split (leb (getD s 35 0 + 16 * getD s 34 0) (getD s 1 0)) _ (a .1) in
+    let c = both-split (leb (getD s 36 0 + (6 + 2 * getD s 34 0)) (getD s 1 0)) _ (b .1) in
+    let d = both-split (leb (getD s 37 0 + (6 + 8 * getD s 34 0)) (getD s 1 0)) _ (c .1) in
+    let f = both-split (leb (2 * getD s 34 0) (getD s 38 0)) _ (d .1) in
+    let g = both-split (leb 1048576 (getD s 39 0)) _ (f .1) in
+    let h = both-split (ltb (getD s 40 0) 65536) _ (g .1) in
+    let z = size-range (getD s 34 0) (a .0) in
+    record {
+      size-some = z .0;
+      size-high = z .1;
+      desc-in = omega told;
+      avail-in = omega told;
+      used-in = omega told;
+      chain-long = omega told;
+      stage-long = omega told;
+      taken-low = omega told;
+      answered-low = omega told;
+    }
