@@ -1,0 +1,56 @@
+use borrow.Author.Needs.{needs}
+use Rattle.hostiledisk.proofs.set_up.areas.Statement.{statement}
+use Rattle.hostiledisk.proofs.set_up.areas.Tie as tie
+use Rattle.hostiledisk.proofs.set_up.areas.Reads as reads
+use Rattle.hostiledisk.proofs.set_up.areas.Lts as lts
+use Rattle.ring.proofs.areas.Reads as areas-reads
+
+-- src/set_up.rt:56:13
+shared-slice-read-n : tie.Need-shared-slice-read-n
+shared-slice-read-n c = search needs
+
+-- src/set_up.rt:57:19
+mul-end : tie.Need-mul-end
+mul-end c = ?
+
+-- src/set_up.rt:57:15
+add-end : tie.Need-add-end
+add-end c = ?
+
+-- src/set_up.rt:58:17
+sub-areas : tie.Need-sub-areas
+sub-areas c = search needs
+
+-- src/set_up.rt:58:17
+part-areas-start : tie.Need-part-areas-start
+part-areas-start c = search needs
+
+-- src/set_up.rt:58:17
+part-areas-end : tie.Need-part-areas-end
+part-areas-end c = ?
+
+-- src/set_up.rt:58:33
+shared-slice-read-areas : tie.Need-shared-slice-read-areas
+shared-slice-read-areas c = search needs
+
+-- src/set_up.rt:58:5
+areas-requires : tie.Need-areas-requires
+areas-requires c κs = ?
+
+-- src/set_up.rt:51:1
+returns : tie.Need-returns
+returns c = ?
+
+pub areas-spec : {M : Type 1} → statement M
+areas-spec =
+    tie.close
+    (tie.spec
+    shared-slice-read-n
+    mul-end
+    add-end
+    sub-areas
+    part-areas-start
+    part-areas-end
+    shared-slice-read-areas
+    areas-requires
+    returns)

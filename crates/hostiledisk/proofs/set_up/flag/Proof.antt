@@ -1,0 +1,15 @@
+use Rattle.hostiledisk.proofs.set_up.flag.Statement.{statement}
+use Rattle.hostiledisk.proofs.set_up.flag.Tie as tie
+use Rattle.hostiledisk.proofs.set_up.flag.Reads as reads
+use Rattle.hostiledisk.proofs.set_up.flag.Lts as lts
+
+-- src/set_up.rt:30:9
+returns : tie.Need-returns
+returns c = ?
+
+-- src/set_up.rt:26:1
+returns-2 : tie.Need-returns-2
+returns-2 c = ?
+
+pub flag-spec : {M : Type 1} → statement M
+flag-spec = tie.close (tie.spec returns returns-2)

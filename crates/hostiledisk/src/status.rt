@@ -1,0 +1,73 @@
+// The eight words of hd_status.
+ghost use mathlib.Core.Path.{_≡_};
+ghost use mathlib.Core.Bool.{true};
+ghost use Prim.Native.Nat.{_≤_};
+ghost use lib.ListN.{length};
+ghost use Rattle.model.specs.Bytes.{put};
+ghost use Rattle.model.specs.Sane.{sane};
+ghost use Rattle.hostiledisk.specs.Calls.{seen, seenOf, shown, statusWords};
+use crate::Seen;
+use model::Phase;
+use model::Walk;
+
+fn seen(reason: usize, step: usize, head: usize, count: usize, bytes: usize) -> Seen
+    ensures { λ z. ⌜ z ≡ seen reason step head count bytes ⌝ }
+{
+    Seen {
+        reason,
+        step,
+        head,
+        count,
+        bytes,
+    }
+}
+
+fn at_hand(step: usize, k: Walk, bytes: usize) -> Seen
+    ensures { λ z. ⌜ z ≡ seen 0 step (k .head) (k .count) bytes ⌝ }
+{
+    seen(0, step, k.head, k.count, bytes)
+}
+
+fn seen_of(q: usize, sectors: usize, p: Phase) -> Seen
+    requires { ⌜ sane q sectors p ≡ true ⌝ }
+    ensures { λ z. ⌜ z ≡ seenOf p ⌝ }
+{
+    match p {
+        Phase::Poll => seen(0, 1, 0, 0, 0),
+        Phase::Entry => seen(0, 2, 0, 0, 0),
+        Phase::Chain(k, _) => at_hand(3, k, 0),
+        Phase::Header(k, _, got) => at_hand(4, k, got),
+        Phase::Payload(k, _, _, got) => at_hand(5, k, 16 + got),
+        Phase::Answer(k, _, got) => at_hand(6, k, got),
+        Phase::Publish(k, got) => at_hand(7, k, got),
+        Phase::Broken(reason, head, count) => seen(reason, 0, head, count, 0),
+    }
+}
+
+fn show(out: &mut [usize], enabled: usize, taken: usize, answered: usize, x: Seen)
+    requires { ⌜ 8 ≤ length (now out) ⌝ }
+    ensures { λ _. ⌜ now (out .exit) ≡ put (now (out .entry)) 0 (shown enabled taken answered x) ⌝ }
+{
+    out[0] = enabled;
+    out[1] = x.reason;
+    out[2] = taken;
+    out[3] = answered;
+    out[4] = x.step;
+    out[5] = x.head;
+    out[6] = x.count;
+    out[7] = x.bytes;
+}
+
+pub fn write(state: &[usize], out: &mut [usize])
+    requires { ⌜ 52 ≤ length (now state) ⌝ }
+    requires { ⌜ 8 ≤ length (now out) ⌝ }
+    ensures { λ _. ⌜ now (out .exit) ≡ put (now (out .entry)) 0 (statusWords (now (state .entry))) ⌝ }
+{
+    if words::level(state) == 3 {
+        let p = words::phase_of(words::row_at(state));
+        let x = seen_of(state[34], state[28], p);
+        show(out, 1, state[40], state[41], x);
+        return;
+    }
+    show(out, 0, 0, 0, seen(0, 0, 0, 0, 0));
+}
