@@ -1,3 +1,7 @@
+use native.Mathlib.Omega.{arith}
+use Rattle.hostiledisk.specs.Calls.{chainWords, hdMemory, flag, diskSet, hdDisk, queueSet, enabledWith, hdEnableAt, hdReset, seen, seenOf, shown, statusWords, hdStatus, isBroken, longEnough, stepped, steppedOn, Going, hdStep, StepIs}
+use mathlib.Core.Path.{_≡_, refl, sym, _∙_, ap}
+use Rattle.model.proofs.Ring.{size-range}
 use borrow.Author.Needs.{needs}
 use Rattle.hostiledisk.proofs.hd_chain_words.Statement.{statement}
 use Rattle.hostiledisk.proofs.hd_chain_words.Tie as tie
@@ -11,15 +15,17 @@ size-ok-requires c κs = search needs
 
 -- src/lib.rt:36:16
 mul-result : tie.Need-mul-result
-mul-result c = ?
+mul-result c = omega (arith, size-range _ (sym (c .before .size-ok .ensures) ∙ c .if1 .taken))
 
 -- src/lib.rt:36:9
 returns : tie.Need-returns
-returns c = ?
+unfolding chainWords
+returns c = rw (← (c .before .size-ok .ensures), c .if1 .taken)
 
 -- src/lib.rt:31:1
 returns-2 : tie.Need-returns-2
-returns-2 c = ?
+unfolding chainWords
+returns-2 c = rw (← (c .before .size-ok .ensures), c .if1 .left)
 
 pub hd-chain-words-spec : {M : Type 1} → statement M
 hd-chain-words-spec = tie.close (tie.spec size-ok-requires mul-result returns returns-2)

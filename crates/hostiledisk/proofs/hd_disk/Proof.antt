@@ -1,3 +1,6 @@
+use borrow.Author.Tests.{ne-eqb, eq-eqb, lt-ltb, le-ltb, le-leb, lt-leb}
+use Rattle.hostiledisk.specs.Calls.{chainWords, hdMemory, flag, diskSet, hdDisk, queueSet, enabledWith, hdEnableAt, hdReset, seen, seenOf, shown, statusWords, hdStatus, isBroken, longEnough, stepped, steppedOn, Going, hdStep, StepIs}
+use mathlib.Core.Path.{_≡_, refl, sym, _∙_, ap}
 use borrow.Author.Needs.{needs}
 use Rattle.hostiledisk.proofs.hd_disk.Statement.{statement}
 use Rattle.hostiledisk.proofs.hd_disk.Tie as tie
@@ -9,7 +12,8 @@ use Rattle.words.proofs.level.Reads as level-reads
 
 -- src/lib.rt:71:9
 returns : tie.Need-returns
-returns c = ?
+unfolding hdDisk
+returns c = (rw (lt-ltb _ 52 (c .if1 .taken)), rw (lt-ltb _ 52 (c .if1 .taken)))
 
 -- src/lib.rt:73:9
 level-requires : tie.Need-level-requires
@@ -21,7 +25,8 @@ same-length c = search needs
 
 -- src/lib.rt:75:9
 returns-2 : tie.Need-returns-2
-returns-2 c = ?
+unfolding hdDisk
+returns-2 c = (rw (le-ltb _ 52 (c .before .before .before .if1 .left), ← (c .before .level .ensures), lt-leb 1 _ (c .if2 .taken)), rw (le-ltb _ 52 (c .before .before .before .if1 .left), ← (c .before .level .ensures), lt-leb 1 _ (c .if2 .taken)))
 
 -- src/lib.rt:78:9
 same-length-2 : tie.Need-same-length-2
@@ -29,7 +34,8 @@ same-length-2 c = search needs
 
 -- src/lib.rt:78:9
 returns-3 : tie.Need-returns-3
-returns-3 c = ?
+unfolding hdDisk
+returns-3 c = (rw (le-ltb _ 52 (c .before .before .before .before .if1 .left), ← (c .before .before .level .ensures), le-leb 1 _ (c .before .if2 .left), lt-leb _ 2 (c .if3 .taken)), rw (le-ltb _ 52 (c .before .before .before .before .if1 .left), ← (c .before .before .level .ensures), le-leb 1 _ (c .before .if2 .left), lt-leb _ 2 (c .if3 .taken)))
 
 -- src/lib.rt:81:9
 same-length-3 : tie.Need-same-length-3
@@ -37,7 +43,8 @@ same-length-3 c = search needs
 
 -- src/lib.rt:81:9
 returns-4 : tie.Need-returns-4
-returns-4 c = ?
+unfolding hdDisk
+returns-4 c = (rw (le-ltb _ 52 (c .before .before .before .before .before .if1 .left), ← (c .before .before .before .level .ensures), le-leb 1 _ (c .before .before .if2 .left), le-leb _ 2 (c .before .if3 .left), ne-eqb _ 20 (c .if4 .taken)), rw (le-ltb _ 52 (c .before .before .before .before .before .if1 .left), ← (c .before .before .before .level .ensures), le-leb 1 _ (c .before .before .if2 .left), le-leb _ 2 (c .before .if3 .left), ne-eqb _ 20 (c .if4 .taken)))
 
 -- src/lib.rt:83:9
 disk-code-requires : tie.Need-disk-code-requires
@@ -49,7 +56,8 @@ same-length-4 c = search needs
 
 -- src/lib.rt:85:9
 returns-5 : tie.Need-returns-5
-returns-5 c = ?
+unfolding hdDisk
+returns-5 c = (rw (le-ltb _ 52 (c .before .before .before .before .before .before .before .if1 .left), ← (c .before .before .before .before .before .level .ensures), le-leb 1 _ (c .before .before .before .before .if2 .left), le-leb _ 2 (c .before .before .before .if3 .left), eq-eqb _ 20 (c .before .before .if4 .left), ← (c .before .disk-code .ensures), ne-eqb _ 0 (c .if5 .taken)), rw (le-ltb _ 52 (c .before .before .before .before .before .before .before .if1 .left), ← (c .before .before .before .before .before .level .ensures), le-leb 1 _ (c .before .before .before .before .if2 .left), le-leb _ 2 (c .before .before .before .if3 .left), eq-eqb _ 20 (c .before .before .if4 .left), ← (c .before .disk-code .ensures), ne-eqb _ 0 (c .if5 .taken)))
 
 -- src/lib.rt:87:5
 note-disk-requires : tie.Need-note-disk-requires
@@ -61,7 +69,8 @@ same-length-5 c = search needs
 
 -- src/lib.rt:65:1
 returns-6 : tie.Need-returns-6
-returns-6 c = ?
+unfolding hdDisk
+returns-6 c = (rw (le-ltb _ 52 (c .before .before .before .before .before .before .before .before .before .before .before .if1 .left), ← (c .before .before .before .before .before .before .before .before .before .level .ensures), le-leb 1 _ (c .before .before .before .before .before .before .before .before .if2 .left), le-leb _ 2 (c .before .before .before .before .before .before .before .if3 .left), eq-eqb _ 20 (c .before .before .before .before .before .before .if4 .left), ← (c .before .before .before .before .before .disk-code .ensures), eq-eqb _ 0 (c .before .before .before .before .if5 .left)), rw (le-ltb _ 52 (c .before .before .before .before .before .before .before .before .before .before .before .if1 .left), ← (c .before .before .before .before .before .before .before .before .before .level .ensures), le-leb 1 _ (c .before .before .before .before .before .before .before .before .if2 .left), le-leb _ 2 (c .before .before .before .before .before .before .before .if3 .left), eq-eqb _ 20 (c .before .before .before .before .before .before .if4 .left), ← (c .before .before .before .before .before .disk-code .ensures), eq-eqb _ 0 (c .before .before .before .before .if5 .left)) (c .before .before .note-disk .ensures))
 
 pub hd-disk-spec : {M : Type 1} → statement M
 hd-disk-spec =

@@ -1,3 +1,7 @@
+use borrow.Author.Tests.{ne-eqb, eq-eqb, lt-ltb, le-ltb, le-leb, lt-leb}
+use Rattle.hostiledisk.specs.Calls.{chainWords, hdMemory, flag, diskSet, hdDisk, queueSet, enabledWith, hdEnableAt, hdReset, seen, seenOf, shown, statusWords, hdStatus, isBroken, longEnough, stepped, steppedOn, Going, hdStep, StepIs}
+use mathlib.Core.Path.{_≡_, refl, sym, _∙_, ap}
+use Rattle.hostiledisk.proofs.Laws.{memory-few, level-two, level-three, chain-room, fit-of, untouched-is}
 use borrow.Author.Needs.{needs}
 use Rattle.hostiledisk.proofs.hd_enable_at.Statement.{statement}
 use Rattle.hostiledisk.proofs.hd_enable_at.Tie as tie
@@ -9,7 +13,8 @@ use Rattle.words.proofs.level.Reads as level-reads
 
 -- src/lib.rt:97:9
 returns : tie.Need-returns
-returns c = ?
+unfolding hdEnableAt
+returns c = (rw (lt-ltb _ 52 (c .if1 .taken)), rw (lt-ltb _ 52 (c .if1 .taken)))
 
 -- src/lib.rt:99:8
 level-requires : tie.Need-level-requires
@@ -21,11 +26,12 @@ same-length c = search needs
 
 -- src/lib.rt:100:9
 returns-2 : tie.Need-returns-2
-returns-2 c = ?
+unfolding hdEnableAt
+returns-2 c = (rw (le-ltb _ 52 (c .before .before .before .if1 .left), ← (c .before .level .ensures), ne-eqb _ 2 (c .if2 .taken)), rw (le-ltb _ 52 (c .before .before .before .if1 .left), ← (c .before .level .ensures), ne-eqb _ 2 (c .if2 .taken)))
 
 -- src/lib.rt:102:9
 areas-requires : tie.Need-areas-requires
-areas-requires c κs = ?
+areas-requires c κs = (c .before .before .before .before .if1 .left, level-two _ (sym (c .before .before .level .ensures) ∙ c .before .if2 .left))
 
 -- src/lib.rt:103:5
 enable-requires : tie.Need-enable-requires
@@ -37,7 +43,8 @@ same-length-2 c = search needs
 
 -- src/lib.rt:91:1
 returns-3 : tie.Need-returns-3
-returns-3 c = ?
+unfolding hdEnableAt
+returns-3 c = let u = eq-eqb _ 2 (c .before .before .before .before .before .before .if2 .left) in (rw (le-ltb _ 52 (c .before .before .before .before .before .before .before .before .before .if1 .left), ← (c .before .before .before .before .before .before .before .level .ensures), u, ← (c .before .before .before .before .areas .ensures)) (c .before .before .enable .ensures .0), rw (le-ltb _ 52 (c .before .before .before .before .before .before .before .before .before .if1 .left), ← (c .before .before .before .before .before .before .before .level .ensures), u, ← (c .before .before .before .before .areas .ensures)) (c .before .before .enable .ensures .1))
 
 pub hd-enable-at-spec : {M : Type 1} → statement M
 hd-enable-at-spec =

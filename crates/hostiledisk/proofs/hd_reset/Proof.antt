@@ -1,3 +1,6 @@
+use borrow.Author.Tests.{ne-eqb, eq-eqb, lt-ltb, le-ltb, le-leb, lt-leb}
+use Rattle.hostiledisk.specs.Calls.{chainWords, hdMemory, flag, diskSet, hdDisk, queueSet, enabledWith, hdEnableAt, hdReset, seen, seenOf, shown, statusWords, hdStatus, isBroken, longEnough, stepped, steppedOn, Going, hdStep, StepIs}
+use mathlib.Core.Path.{_≡_, refl, sym, _∙_, ap}
 use borrow.Author.Needs.{needs}
 use Rattle.hostiledisk.proofs.hd_reset.Statement.{statement}
 use Rattle.hostiledisk.proofs.hd_reset.Tie as tie
@@ -7,7 +10,8 @@ use Rattle.words.proofs.level.Reads as level-reads
 
 -- src/lib.rt:120:9
 returns : tie.Need-returns
-returns c = ?
+unfolding hdReset
+returns c = (rw (lt-ltb _ 52 (c .if1 .taken)), rw (lt-ltb _ 52 (c .if1 .taken)))
 
 -- src/lib.rt:122:8
 level-requires : tie.Need-level-requires
@@ -23,7 +27,8 @@ same-length c = search needs
 
 -- src/lib.rt:124:9
 returns-2 : tie.Need-returns-2
-returns-2 c = ?
+unfolding hdReset
+returns-2 c = (rw (le-ltb _ 52 (c .before .before .before .if1 .left)), rw (le-ltb _ 52 (c .before .before .before .if1 .left), ← (c .before .level .ensures), eq-eqb _ 3 (c .if2 .taken)))
 
 -- src/lib.rt:114:1
 same-length-2 : tie.Need-same-length-2
@@ -31,7 +36,8 @@ same-length-2 c = search needs
 
 -- src/lib.rt:114:1
 returns-3 : tie.Need-returns-3
-returns-3 c = ?
+unfolding hdReset
+returns-3 c = (rw (le-ltb _ 52 (c .before .before .before .if1 .left)), rw (le-ltb _ 52 (c .before .before .before .if1 .left), ← (c .before .level .ensures), ne-eqb _ 3 (c .if2 .left)))
 
 pub hd-reset-spec : {M : Type 1} → statement M
 hd-reset-spec =

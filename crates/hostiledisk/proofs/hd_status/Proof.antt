@@ -1,3 +1,5 @@
+use borrow.Author.Tests.{ne-eqb, eq-eqb, lt-ltb, le-ltb, le-leb, lt-leb}
+use Rattle.hostiledisk.specs.Calls.{chainWords, hdMemory, flag, diskSet, hdDisk, queueSet, enabledWith, hdEnableAt, hdReset, seen, seenOf, shown, statusWords, hdStatus, isBroken, longEnough, stepped, steppedOn, Going, hdStep, StepIs}
 use borrow.Author.Needs.{needs}
 use Rattle.hostiledisk.proofs.hd_status.Statement.{statement}
 use Rattle.hostiledisk.proofs.hd_status.Tie as tie
@@ -7,11 +9,13 @@ use Rattle.hostiledisk.proofs.status.write.Reads as write-reads
 
 -- src/lib.rt:135:9
 returns : tie.Need-returns
-returns c = ?
+unfolding hdStatus
+returns c = (rw (lt-ltb _ 52 (c .if1 .taken)), rw (lt-ltb _ 52 (c .if1 .taken)))
 
 -- src/lib.rt:138:9
 returns-2 : tie.Need-returns-2
-returns-2 c = ?
+unfolding hdStatus
+returns-2 c = (rw (le-ltb _ 52 (c .before .if1 .left), lt-ltb _ 8 (c .if2 .taken)), rw (le-ltb _ 52 (c .before .if1 .left), lt-ltb _ 8 (c .if2 .taken)))
 
 -- src/lib.rt:140:5
 write-requires : tie.Need-write-requires
@@ -23,7 +27,8 @@ same-length c = search needs
 
 -- src/lib.rt:129:1
 returns-3 : tie.Need-returns-3
-returns-3 c = ?
+unfolding hdStatus
+returns-3 c = (rw (le-ltb _ 52 (c .before .before .before .before .before .if1 .left), le-ltb _ 8 (c .before .before .before .before .if2 .left)), rw (le-ltb _ 52 (c .before .before .before .before .before .if1 .left), le-ltb _ 8 (c .before .before .before .before .if2 .left)) (c .before .before .write .ensures))
 
 pub hd-status-spec : {M : Type 1} → statement M
 hd-status-spec = tie.close (tie.spec returns returns-2 write-requires same-length returns-3)

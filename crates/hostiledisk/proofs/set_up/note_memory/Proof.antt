@@ -1,3 +1,8 @@
+use lib.ListN.{getD, length-set}
+use mathlib.Core.Path.{_≡_, refl, sym, _∙_, ap}
+use Rattle.model.proofs.Lists.{put-cons, put-nil}
+use native.Mathlib.Omega.{arith}
+use lib.ListN.{length-set}
 use borrow.Author.Needs.{needs}
 use Rattle.hostiledisk.proofs.set_up.note_memory.Statement.{statement}
 use Rattle.hostiledisk.proofs.set_up.note_memory.Tie as tie
@@ -11,23 +16,23 @@ slice-write-state c = search needs
 
 -- src/set_up.rt:21:5
 slice-write-state-2 : tie.Need-slice-write-state-2
-slice-write-state-2 c = ?
+slice-write-state-2 c = simp length-set (omega arith)
 
 -- src/set_up.rt:22:5
 slice-write-state-3 : tie.Need-slice-write-state-3
-slice-write-state-3 c = ?
+slice-write-state-3 c = simp length-set (omega arith)
 
 -- src/set_up.rt:23:5
 keep-requires : tie.Need-keep-requires
-keep-requires c κs = ?
+keep-requires c κs = simp length-set (omega arith)
 
 -- src/set_up.rt:15:1
 same-length : tie.Need-same-length
-same-length c = ?
+same-length c = c .before .before .keep .kept .0 ∙ simp length-set
 
 -- src/set_up.rt:15:1
 returns : tie.Need-returns
-returns c = ?
+returns c = rw (c .before .before .keep .ensures) (simp put-cons)
 
 pub note-memory-spec : {M : Type 1} → statement M
 note-memory-spec =

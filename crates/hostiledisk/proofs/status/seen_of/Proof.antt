@@ -1,3 +1,6 @@
+use native.Mathlib.Omega.{arith}
+use Rattle.hostiledisk.specs.Calls.{chainWords, hdMemory, flag, diskSet, hdDisk, queueSet, enabledWith, hdEnableAt, hdReset, seen, seenOf, shown, statusWords, hdStatus, isBroken, longEnough, stepped, steppedOn, Going, hdStep, StepIs}
+use Rattle.model.proofs.Sane.{payload-ok}
 use borrow.Author.Needs.{needs}
 use Rattle.hostiledisk.proofs.status.seen_of.Statement.{statement}
 use Rattle.hostiledisk.proofs.status.seen_of.Tie as tie
@@ -44,7 +47,7 @@ enum-known-p-3 c = search needs
 
 -- src/status.rt:40:55
 add-at-hand : tie.Need-add-at-hand
-add-at-hand c = ?
+add-at-hand c = let h = payload-ok _ _ _ _ _ _ (rw (c .before .p3 .given .1) at (c .before .before .before .pre)) in omega (arith, h .got-in, h .fit .short)
 
 -- src/status.rt:40:41
 at-hand-requires-3 : tie.Need-at-hand-requires-3
@@ -76,35 +79,43 @@ seen-requires-3 c κs = search needs
 
 -- src/status.rt:31:1
 returns : tie.Need-returns
-returns c = ?
+unfolding seenOf
+returns c = rw (c .before .enum-told .given .1) (c .seen .ensures)
 
 -- src/status.rt:31:1
 returns-2 : tie.Need-returns-2
-returns-2 c = ?
+unfolding seenOf
+returns-2 c = rw (c .before .enum-told2 .given .1) (c .seen2 .ensures)
 
 -- src/status.rt:31:1
 returns-3 : tie.Need-returns-3
-returns-3 c = ?
+unfolding seenOf
+returns-3 c = rw (c .before .before .p .given .1) (c .at-hand .ensures)
 
 -- src/status.rt:31:1
 returns-4 : tie.Need-returns-4
-returns-4 c = ?
+unfolding seenOf
+returns-4 c = rw (c .before .before .p2 .given .1) (c .at-hand2 .ensures)
 
 -- src/status.rt:31:1
 returns-5 : tie.Need-returns-5
-returns-5 c = ?
+unfolding seenOf
+returns-5 c = rw (c .before .before .p3 .given .1) (c .at-hand3 .ensures)
 
 -- src/status.rt:31:1
 returns-6 : tie.Need-returns-6
-returns-6 c = ?
+unfolding seenOf
+returns-6 c = rw (c .before .before .p4 .given .1) (c .at-hand4 .ensures)
 
 -- src/status.rt:31:1
 returns-7 : tie.Need-returns-7
-returns-7 c = ?
+unfolding seenOf
+returns-7 c = rw (c .before .before .p5 .given .1) (c .at-hand5 .ensures)
 
 -- src/status.rt:31:1
 returns-8 : tie.Need-returns-8
-returns-8 c = ?
+unfolding seenOf
+returns-8 c = rw (c .before .before .p6 .given .1) (c .seen3 .ensures)
 
 pub seen-of-spec : {M : Type 1} → statement M
 seen-of-spec =

@@ -1,3 +1,7 @@
+use Rattle.hostiledisk.specs.Calls.{chainWords, hdMemory, flag, diskSet, hdDisk, queueSet, enabledWith, hdEnableAt, hdReset, seen, seenOf, shown, statusWords, hdStatus, isBroken, longEnough, stepped, steppedOn, Going, hdStep, StepIs}
+use Rattle.model.proofs.Lists.{put-cons, put-nil}
+use native.Mathlib.Omega.{arith}
+use lib.ListN.{length-set}
 use borrow.Author.Needs.{needs}
 use Rattle.hostiledisk.proofs.status.show.Statement.{statement}
 use Rattle.hostiledisk.proofs.status.show.Tie as tie
@@ -10,27 +14,27 @@ slice-write-out c = search needs
 
 -- src/status.rt:52:5
 slice-write-out-2 : tie.Need-slice-write-out-2
-slice-write-out-2 c = ?
+slice-write-out-2 c = simp length-set (omega arith)
 
 -- src/status.rt:53:5
 slice-write-out-3 : tie.Need-slice-write-out-3
-slice-write-out-3 c = ?
+slice-write-out-3 c = simp length-set (omega arith)
 
 -- src/status.rt:54:5
 slice-write-out-4 : tie.Need-slice-write-out-4
-slice-write-out-4 c = ?
+slice-write-out-4 c = simp length-set (omega arith)
 
 -- src/status.rt:55:5
 slice-write-out-5 : tie.Need-slice-write-out-5
-slice-write-out-5 c = ?
+slice-write-out-5 c = simp length-set (omega arith)
 
 -- src/status.rt:56:5
 slice-write-out-6 : tie.Need-slice-write-out-6
-slice-write-out-6 c = ?
+slice-write-out-6 c = simp length-set (omega arith)
 
 -- src/status.rt:57:5
 slice-write-out-7 : tie.Need-slice-write-out-7
-slice-write-out-7 c = ?
+slice-write-out-7 c = simp length-set (omega arith)
 
 -- src/status.rt:58:5
 slice-write-out-8 : tie.Need-slice-write-out-8
@@ -42,7 +46,8 @@ same-length c = search needs
 
 -- src/status.rt:47:1
 returns : tie.Need-returns
-returns c = ?
+unfolding shown
+returns c = simp (put-cons, put-nil)
 
 pub show-spec : {M : Type 1} → statement M
 show-spec =

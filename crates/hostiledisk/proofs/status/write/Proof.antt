@@ -1,3 +1,7 @@
+use borrow.Author.Tests.{ne-eqb, eq-eqb, lt-ltb, le-ltb, le-leb, lt-leb}
+use Rattle.hostiledisk.specs.Calls.{chainWords, hdMemory, flag, diskSet, hdDisk, queueSet, enabledWith, hdEnableAt, hdReset, seen, seenOf, shown, statusWords, hdStatus, isBroken, longEnough, stepped, steppedOn, Going, hdStep, StepIs}
+use mathlib.Core.Path.{_≡_, refl, sym, _∙_, ap}
+use Rattle.hostiledisk.proofs.Laws.{memory-few, level-two, level-three, chain-room, fit-of, untouched-is}
 use borrow.Author.Needs.{needs}
 use Rattle.hostiledisk.proofs.status.write.Statement.{statement}
 use Rattle.hostiledisk.proofs.status.write.Tie as tie
@@ -32,7 +36,7 @@ shared-slice-read-seen-of-2 c = search needs
 
 -- src/status.rt:68:13
 seen-of-requires : tie.Need-seen-of-requires
-seen-of-requires c κs = ?
+seen-of-requires c κs = rw (c .before .before .phase-of .ensures, c .before .before .before .row-at .ensures) (level-three _ (sym (c .before .before .before .before .before .level .ensures) ∙ c .before .before .before .before .if1 .taken) .phase)
 
 -- src/status.rt:69:22
 shared-slice-read-show : tie.Need-shared-slice-read-show
@@ -52,7 +56,8 @@ same-length c = search needs
 
 -- src/status.rt:70:9
 returns : tie.Need-returns
-returns c = ?
+unfolding statusWords
+returns c = rw (← (c .before .before .before .before .before .before .before .before .before .before .before .before .level .ensures), eq-eqb _ 3 (c .before .before .before .before .before .before .before .before .before .before .before .if1 .taken), ← (c .before .before .before .before .before .before .before .before .before .before .row-at .ensures), ← (c .before .before .before .before .before .before .before .before .before .phase-of .ensures), ← (c .before .before .before .before .before .before .seen-of .ensures)) (c .before .before .show .ensures)
 
 -- src/status.rt:72:24
 seen-requires : tie.Need-seen-requires
@@ -68,7 +73,8 @@ same-length-2 c = search needs
 
 -- src/status.rt:61:1
 returns-2 : tie.Need-returns-2
-returns-2 c = ?
+unfolding statusWords
+returns-2 c = rw (← (c .before .before .before .before .before .before .level .ensures), ne-eqb _ 3 (c .before .before .before .before .before .if1 .left), ← (c .before .before .before .seen .ensures)) (c .before .before .show2 .ensures)
 
 pub write-spec : {M : Type 1} → statement M
 write-spec =

@@ -1,3 +1,5 @@
+use Rattle.model.proofs.Tests.{tests}
+use Rattle.hostiledisk.specs.Calls.{chainWords, hdMemory, flag, diskSet, hdDisk, queueSet, enabledWith, hdEnableAt, hdReset, seen, seenOf, shown, statusWords, hdStatus, isBroken, longEnough, stepped, steppedOn, Going, hdStep, StepIs}
 use borrow.Author.Needs.{needs}
 use Rattle.hostiledisk.proofs.stepping.is_broken.Statement.{statement}
 use Rattle.hostiledisk.proofs.stepping.is_broken.Tie as tie
@@ -38,35 +40,43 @@ enum-told-8 c = search needs
 
 -- src/stepping.rt:10:1
 returns : tie.Need-returns
-returns c = ?
+unfolding isBroken
+returns c = search tests
 
 -- src/stepping.rt:10:1
 returns-2 : tie.Need-returns-2
-returns-2 c = ?
+unfolding isBroken
+returns-2 c = search tests
 
 -- src/stepping.rt:10:1
 returns-3 : tie.Need-returns-3
-returns-3 c = ?
+unfolding isBroken
+returns-3 c = search tests
 
 -- src/stepping.rt:10:1
 returns-4 : tie.Need-returns-4
-returns-4 c = ?
+unfolding isBroken
+returns-4 c = search tests
 
 -- src/stepping.rt:10:1
 returns-5 : tie.Need-returns-5
-returns-5 c = ?
+unfolding isBroken
+returns-5 c = search tests
 
 -- src/stepping.rt:10:1
 returns-6 : tie.Need-returns-6
-returns-6 c = ?
+unfolding isBroken
+returns-6 c = search tests
 
 -- src/stepping.rt:10:1
 returns-7 : tie.Need-returns-7
-returns-7 c = ?
+unfolding isBroken
+returns-7 c = search tests
 
 -- src/stepping.rt:10:1
 returns-8 : tie.Need-returns-8
-returns-8 c = ?
+unfolding isBroken
+returns-8 c = search tests
 
 pub is-broken-spec : {M : Type 1} → statement M
 is-broken-spec =

@@ -1,3 +1,5 @@
+use Rattle.model.proofs.Tests.{tests}
+use Rattle.hostiledisk.specs.Calls.{chainWords, hdMemory, flag, diskSet, hdDisk, queueSet, enabledWith, hdEnableAt, hdReset, seen, seenOf, shown, statusWords, hdStatus, isBroken, longEnough, stepped, steppedOn, Going, hdStep, StepIs}
 use borrow.Author.Needs.{needs}
 use Rattle.hostiledisk.proofs.stepping.long_enough.Statement.{statement}
 use Rattle.hostiledisk.proofs.stepping.long_enough.Tie as tie
@@ -10,7 +12,8 @@ shared-slice-read-if1 c = search needs
 
 -- src/stepping.rt:31:9
 returns : tie.Need-returns
-returns c = ?
+unfolding longEnough
+returns c = search tests
 
 -- src/stepping.rt:33:18
 shared-slice-read-if2 : tie.Need-shared-slice-read-if2
@@ -18,7 +21,8 @@ shared-slice-read-if2 c = search needs
 
 -- src/stepping.rt:34:9
 returns-2 : tie.Need-returns-2
-returns-2 c = ?
+unfolding longEnough
+returns-2 c = search tests
 
 -- src/stepping.rt:36:16
 shared-slice-read-if3 : tie.Need-shared-slice-read-if3
@@ -26,7 +30,8 @@ shared-slice-read-if3 c = search needs
 
 -- src/stepping.rt:37:9
 returns-3 : tie.Need-returns-3
-returns-3 c = ?
+unfolding longEnough
+returns-3 c = search tests
 
 -- src/stepping.rt:39:5
 shared-slice-read-result : tie.Need-shared-slice-read-result
@@ -34,7 +39,8 @@ shared-slice-read-result c = search needs
 
 -- src/stepping.rt:26:1
 returns-4 : tie.Need-returns-4
-returns-4 c = ?
+unfolding longEnough
+returns-4 c = search tests
 
 pub long-enough-spec : {M : Type 1} → statement M
 long-enough-spec =
