@@ -42,10 +42,18 @@ word-saved s t a p h j l = put-in s 40 (t ∷ a ∷ rowWords (rowOf p)) j l (ome
 pub row-saved : (s : List ℕ) (t a : ℕ) (p : Phase) → 52 ≤ length s → rowAt (saved s t a p) ≡ rowOf p
 unfolding rowAt rowWords
 row-saved s t a p h =
-    rw (word-saved s t a p h 2 (omega arith), word-saved s t a p h 3 (omega arith), word-saved s t a p h 4 (omega arith),
-    word-saved s t a p h 5 (omega arith), word-saved s t a p h 6 (omega arith), word-saved s t a p h 7 (omega arith),
-    word-saved s t a p h 8 (omega arith), word-saved s t a p h 9 (omega arith), word-saved s t a p h 10 (omega arith),
-    word-saved s t a p h 11 (omega arith))
+    rw (
+      word-saved s t a p h 2 (omega arith),
+      word-saved s t a p h 3 (omega arith),
+      word-saved s t a p h 4 (omega arith),
+      word-saved s t a p h 5 (omega arith),
+      word-saved s t a p h 6 (omega arith),
+      word-saved s t a p h 7 (omega arith),
+      word-saved s t a p h 8 (omega arith),
+      word-saved s t a p h 9 (omega arith),
+      word-saved s t a p h 10 (omega arith),
+      word-saved s t a p h 11 (omega arith),
+    )
 
 pub phase-saved : (s : List ℕ) (t a : ℕ) (p : Phase) → 52 ≤ length s → phaseOf (rowAt (saved s t a p)) ≡ p
 phase-saved s t a p h = ap phaseOf (row-saved s t a p h) ∙ phase-again p

@@ -1,0 +1,1 @@
+// Theorems about every sequence of calls, and nothing else. No code.
