@@ -7,6 +7,12 @@ use lib.Dec.{eqb}
 use mathlib.Core.Bool.{Bool, true, false}
 use Rattle.model.specs.Pick.{pick}
 use Rattle.model.proofs.Lists.{Apart}
+use Rattle.model.specs.Step.{Span, want, usedAt, writables}
+use Rattle.device.specs.Turn.{cfgOf}
+use Rattle.words.specs.Layout.{rowAt, phaseOf, configAt, mapWords}
+use Rattle.model.specs.declared.Queue.{Queue}
+use Rattle.model.specs.declared.Phase.{Phase}
+use Rattle.model.specs.declared.Phase.the-variants.{Poll, Entry, Chain, Header, Payload, Answer, Publish, Broken}
 use Rattle.hostiledisk.specs.Calls.{Set, Called, hdMemory, hdDisk, hdEnableAt, hdReset, hdStep}
 
 -- a call; hd_enable is hd_enable_at with start 0. A step comes with the guest memory that it finds, whatever that holds.
@@ -136,3 +142,23 @@ viewsOf k h (x ∷ xs) = pick (eqb (x .who) k) (view (ran (worldOf h (x .who)) (
 unfoldable pub Apartments : (ℕ → ℕ → Type 0) → House → List Turn → Type 0
 Apartments In h [] = Unit {0}
 Apartments In h (x ∷ xs) = WithinNow (In (x .who)) (worldOf h (x .who)) (x .what) × Apartments In (act h x) xs
+
+-- the one range of guest memory that a step on these words wants
+abbrev pub wanted : List ℕ → List ℕ → Span
+wanted s chain = want (cfgOf (configAt s) (mapWords s)) (getD s 40 0) chain (phaseOf (rowAt s))
+
+-- the ranges of guest memory that a step may write: writable buffers of the chain at hand and the used entry; or used idx
+unfoldable pub touched : Queue → ℕ → List ℕ → Phase → List Span
+touched q answered chain Poll = []
+touched q answered chain Entry = []
+touched q answered chain (Chain k cur) = []
+touched q answered chain (Header k p got) = []
+touched q answered chain (Payload k p s got) = []
+touched q answered chain (Answer k job got) = record { at = usedAt q answered; len = 8 } ∷ writables chain k
+touched q answered chain (Publish k got) = record { at = q .used + 2; len = 2 } ∷ []
+touched q answered chain (Broken reason head count) = []
+
+-- byte i lies outside all of these ranges
+unfoldable pub Clear : ℕ → List Span → Type 0
+Clear i [] = Unit {0}
+Clear i (x ∷ xs) = Apart i (x .at) (x .len) × Clear i xs
