@@ -1,3 +1,5 @@
 pub mod Step
 pub mod Walls
 pub mod Memory
+pub mod Good
+pub mod Keeps

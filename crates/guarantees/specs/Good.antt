@@ -1,0 +1,51 @@
+-- The states that set-up and steps make: what is true of the request at hand, beyond what each call tests.
+use Prim.Native.Nat.{ℕ, zero, suc, _+_, _-_, _*_, _≤_, _<_}
+use mathlib.Core.Bool.{true}
+use mathlib.Core.List.{List}
+use mathlib.Core.Path.{_≡_}
+use lib.ListN.{getD}
+use Rattle.model.specs.Memory.{Region}
+use Rattle.model.specs.Request.{fits}
+use Rattle.model.specs.Sane.{jobOk}
+use Rattle.model.proofs.Memory.{InOne}
+use Rattle.model.specs.declared.Walk.{Walk}
+use Rattle.model.specs.declared.Place.{Place}
+use Rattle.model.specs.declared.Phase.{Phase}
+use Rattle.model.specs.declared.Phase.the-variants.{Poll, Entry, Chain, Header, Payload, Answer, Publish, Broken}
+
+-- bytes of the first n buffers of the private chain
+unfoldable pub before : List ℕ → ℕ → ℕ
+before chain zero = 0
+before chain (suc n) = before chain n + getD chain (2 * n + 1) 0
+
+-- a buffer that lies in one registered region, from some guest address on
+pub record Spot (rs : List Region) (at len : ℕ) : Type 0 where
+  pub address : ℕ
+  pub in-one : InOne rs address len at
+  pub short : len ≤ 4294967295
+
+-- the chain as far as it is held: each buffer in one region, r and w the sums of the lengths
+pub record WalkGood (rs : List Region) (q : ℕ) (chain : List ℕ) (k : Walk) : Type 0 where
+  pub head-in : k .head < q
+  pub count-in : k .count ≤ q
+  pub reads-in : k .reads ≤ k .count
+  pub buffers : (i : ℕ) → i < k .count → Spot rs (getD chain (2 * i) 0) (getD chain (2 * i + 1) 0)
+  pub r-is : k .r ≡ before chain (k .reads)
+  pub w-is : k .r + k .w ≡ before chain (k .count)
+
+-- n bytes of the readable string have been fetched, and this is the place of the next
+pub record Next (chain : List ℕ) (k : Walk) (p : Place) (n : ℕ) : Type 0 where
+  pub buf-in : p .buf < k .reads
+  pub skip-in : p .skip < getD chain (2 * p .buf + 1) 0
+  pub n-is : before chain (p .buf) + p .skip ≡ n
+
+unfoldable pub Good : List Region → ℕ → ℕ → List ℕ → Phase → Type 0
+Good rs q sectors chain Poll = Unit {0}
+Good rs q sectors chain Entry = Unit {0}
+Good rs q sectors chain (Chain k cur) = WalkGood rs q chain k × (cur < q)
+Good rs q sectors chain (Header k p got) = WalkGood rs q chain k × (k .reads < k .count) × (got < 16) × (16 ≤ k .r) × Next chain k p got
+Good rs q sectors chain (Payload k p s got) =
+    WalkGood rs q chain k × (k .reads < k .count) × (16 < k .r) × (got < k .r - 16) × (fits (k .r - 16) s sectors ≡ true) × Next chain k p (16 + got)
+Good rs q sectors chain (Answer k job got) = WalkGood rs q chain k × (k .reads < k .count) × (got ≤ k .r) × (jobOk sectors k job ≡ true)
+Good rs q sectors chain (Publish k got) = WalkGood rs q chain k × (k .reads < k .count) × (got ≤ k .r)
+Good rs q sectors chain (Broken reason head count) = (1 ≤ reason) × (reason ≤ 8) × (head < q) × (count ≤ q + 1)
