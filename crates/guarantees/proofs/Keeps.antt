@@ -6,7 +6,7 @@ use mathlib.Core.Path.{_≡_, refl, sym, ap, _∙_}
 use native.Mathlib.Omega.{arith}
 use native.Mathlib.Nat.{add-zero}
 use lib.Dec.{leb, ltb, eqb}
-use lib.ListN.{getD, length}
+use lib.ListN.{getD, length, length-take, length-drop, List·getD-eq-default}
 use borrow.Author.Tests.{ltb-true, ltb-false, leb-true, leb-false, eqb-true, eqb-false, eq-eqb}
 use Rattle.model.specs.Pick.{pick, both}
 use Rattle.model.specs.Bytes.{put, part, word}
@@ -14,10 +14,11 @@ use Rattle.model.specs.Memory.{Region, locate}
 use Rattle.model.specs.Ring.{polled, headed, pending, fresh}
 use Rattle.model.specs.Chain.{descAt, testedBy, tested, tally, held, complete, described, keeps}
 use Rattle.model.specs.Request.{fits, inOk, outOk, exactly, verdict, decided}
-use Rattle.model.specs.Step.{Cfg, left, lacks, ends, onward, gathered, paid, next, chained}
+use Rattle.model.specs.Step.{Cfg, left, lacks, ends, onward, gathered, paid, next, chained, fetched, want}
+use Rattle.device.specs.Turn.{stateOf}
 use Rattle.model.specs.Sane.{jobOk}
 use Rattle.model.proofs.Tests.{told, on, both-l, both-r, both-split}
-use Rattle.model.proofs.Lists.{put-below, put-in}
+use Rattle.model.proofs.Lists.{put-below, put-in, getD-part}
 use Rattle.model.proofs.Memory.{locate-in}
 use Rattle.model.proofs.Words.{word-below}
 use Rattle.guarantees.specs.Good.{before, Spot, WalkGood, Next, Good}
@@ -281,3 +282,58 @@ keeps-payload rs q sectors chain k p s got g =
     let lt : got + left chain p .len < k .r - 16 = omega (arith, g .2) in
     let y = next-onward rs q chain k p (16 + got) (left chain p .len) (g .0) (g .5) (omega arith) (omega (arith, g .2)) in
     (g .0, g .1, g .2, lt, g .4, next-whole chain k p (16 + got) (16 + (got + left chain p .len)) (omega arith) y))
+
+short : (k n : ℕ) (m : List ℕ) (i : ℕ) → n ≤ i → length (part k n m) ≤ i
+unfolding part
+short k n m i h = simp (length-take, length-drop) (omega arith)
+
+-- bytes of a part of bytes
+part-bytes : (k n : ℕ) (m : List ℕ) → ((i : ℕ) → getD m i 0 < 256) → (i : ℕ) → getD (part k n m) i 0 < 256
+part-bytes k n m f i = go (ltb i n) refl
+  where
+    go : (b : Bool) → ltb i n ≡ b → getD (part k n m) i 0 < 256
+    go true e = rw (getD-part k n m i (ltb-true i n e)) (f (k + i))
+    go false e = rw (List·getD-eq-default (part k n m) 0 {n = i} (short k n m i (ltb-false i n e))) (omega arith)
+
+chain-walk : (rs : List Region) (q sectors : ℕ) (chain : List ℕ) (k : Walk) (cur : ℕ) → Good rs q sectors chain (Chain k cur) → WalkGood rs q chain k
+unfolding Good
+chain-walk rs q sectors chain k cur g = g .0
+
+-- a length of four bytes
+desc-short : (f : List ℕ) → ((i : ℕ) → getD f i 0 < 256) → descAt 0 f .len ≤ 4294967295
+unfolding descAt
+desc-short f b = omega (arith, word-below 4 8 f b)
+
+keeps-header-all : (rs : List Region) (q : ℕ) (d : Disk) (chain : List ℕ) (k : Walk) (p : Place) (got type sector : ℕ) → Good rs q (d .sectors) chain (Header k p got)
+    → Good rs q (d .sectors) chain (gathered d k p got (left chain p .len) (lacks got (left chain p .len)) type sector)
+unfolding Good
+keeps-header-all rs q d chain k p got type sector g = keeps-header rs q d chain k p got type sector (g .0) (g .1) (g .2) (g .3) (g .4)
+
+keeps-answer : (rs : List Region) (q sectors : ℕ) (chain : List ℕ) (k : Walk) (job : Job) (got : ℕ) → Good rs q sectors chain (Answer k job got)
+    → Good rs q sectors chain (Publish k got)
+unfolding Good
+keeps-answer rs q sectors chain k job got g = (g .0, g .1, g .2)
+
+pub keeps-publish : (rs : List Region) (q sectors : ℕ) (chain : List ℕ) → Good rs q sectors chain Poll
+unfolding Good
+keeps-publish rs q sectors chain = tt
+
+-- one step of the model
+pub keeps-next : (c : Cfg) (t a : ℕ) (mem chain stage : List ℕ) (p : Phase) → ((i : ℕ) → getD mem i 0 < 256) → 1 ≤ c .queue .size → 2 * c .queue .size ≤ length chain
+    → Good (c .map) (c .queue .size) (c .disk .sectors) chain p
+    → Good (c .map) (c .queue .size) (c .disk .sectors) (chained c chain p (fetched c (stateOf t a p) chain mem)) (next c t chain stage p (fetched c (stateOf t a p) chain mem))
+unfolding next chained
+keeps-next c t a mem chain stage Poll b h l g = keeps-poll (c .map) (c .queue .size) (c .disk .sectors) chain t (word 2 0 (fetched c (stateOf t a Poll) chain mem)) h
+keeps-next c t a mem chain stage Entry b h l g = keeps-entry (c .map) (c .queue .size) (c .disk .sectors) chain (word 2 0 (fetched c (stateOf t a Entry) chain mem)) h
+keeps-next c t a mem chain stage (Chain k cur) b h l g =
+    let f = fetched c (stateOf t a (Chain k cur)) chain mem in
+    let w = want c t chain (Chain k cur) in
+    keeps-chain (c .map) (c .queue .size) (c .disk .sectors) chain k (descAt 0 f) (chain-walk (c .map) (c .queue .size) (c .disk .sectors) chain k cur g)
+    (desc-short f (part-bytes (w .at) (w .len) mem b)) l
+keeps-next c t a mem chain stage (Header k p got) b h l g =
+    let f = fetched c (stateOf t a (Header k p got)) chain mem in
+    keeps-header-all (c .map) (c .queue .size) (c .disk) chain k p got (word 4 0 (put stage got f)) (word 8 8 (put stage got f)) g
+keeps-next c t a mem chain stage (Payload k p s got) b h l g = keeps-payload (c .map) (c .queue .size) (c .disk .sectors) chain k p s got g
+keeps-next c t a mem chain stage (Answer k job got) b h l g = keeps-answer (c .map) (c .queue .size) (c .disk .sectors) chain k job got g
+keeps-next c t a mem chain stage (Publish k got) b h l g = keeps-publish (c .map) (c .queue .size) (c .disk .sectors) chain
+keeps-next c t a mem chain stage (Broken reason head count) b h l g = g

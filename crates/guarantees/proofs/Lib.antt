@@ -3,3 +3,4 @@ pub mod Walls
 pub mod Memory
 pub mod Good
 pub mod Keeps
+pub mod Reached

@@ -4,7 +4,8 @@ use mathlib.Core.Bool.{true}
 use mathlib.Core.List.{List}
 use mathlib.Core.Path.{_≡_}
 use lib.ListN.{getD}
-use Rattle.model.specs.Memory.{Region}
+use Rattle.model.specs.Memory.{Region, regions}
+use Rattle.words.specs.Layout.{mapWords, phaseOf, rowAt}
 use Rattle.model.specs.Request.{fits}
 use Rattle.model.specs.Sane.{jobOk}
 use Rattle.model.proofs.Memory.{InOne}
@@ -49,3 +50,15 @@ Good rs q sectors chain (Payload k p s got) =
 Good rs q sectors chain (Answer k job got) = WalkGood rs q chain k × (k .reads < k .count) × (got ≤ k .r) × (jobOk sectors k job ≡ true)
 Good rs q sectors chain (Publish k got) = WalkGood rs q chain k × (k .reads < k .count) × (got ≤ k .r)
 Good rs q sectors chain (Broken reason head count) = (1 ≤ reason) × (reason ≤ 8) × (head < q) × (count ≤ q + 1)
+
+-- an area of n bytes that lies in one registered region
+pub record Area (rs : List Region) (at n : ℕ) : Type 0 where
+  pub address : ℕ
+  pub in-one : InOne rs address n at
+
+-- words of an enabled queue that set-up and steps made, beside the chain memory
+pub record Made (s chain : List ℕ) : Type 0 where
+  pub desc-area : Area (regions (mapWords s)) (getD s 35 0) (16 * getD s 34 0)
+  pub avail-area : Area (regions (mapWords s)) (getD s 36 0) (6 + 2 * getD s 34 0)
+  pub used-area : Area (regions (mapWords s)) (getD s 37 0) (6 + 8 * getD s 34 0)
+  pub good : Good (regions (mapWords s)) (getD s 34 0) (getD s 28 0) chain (phaseOf (rowAt s))

@@ -162,3 +162,15 @@ touched q answered chain (Broken reason head count) = []
 unfoldable pub Clear : ℕ → List Span → Type 0
 Clear i [] = Unit {0}
 Clear i (x ∷ xs) = Apart i (x .at) (x .len) × Clear i xs
+
+-- guest memory is bytes, whatever they are
+unfoldable pub BytesNow : Call → Type 0
+BytesNow (memory words m) = Unit {0}
+BytesNow (disk start sectors ro id backing) = Unit {0}
+BytesNow (enable size desc avail used chain stage start) = Unit {0}
+BytesNow reset = Unit {0}
+BytesNow (step mem) = (i : ℕ) → getD mem i 0 < 256
+
+unfoldable pub Bytes : List Call → Type 0
+Bytes [] = Unit {0}
+Bytes (c ∷ cs) = BytesNow c × Bytes cs
