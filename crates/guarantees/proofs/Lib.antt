@@ -4,3 +4,4 @@ pub mod Memory
 pub mod Good
 pub mod Keeps
 pub mod Reached
+pub mod Stays

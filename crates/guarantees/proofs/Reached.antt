@@ -37,7 +37,7 @@ use Rattle.model.specs.declared.Phase.{Phase}
 use Rattle.model.specs.declared.Phase.the-variants.{Poll}
 
 -- the words that set-up wrote are the same after a step
-part-saved : (s : List ℕ) (t a : ℕ) (p : Phase) (n : ℕ) → 3 + n ≤ 40 → part 3 n (saved s t a p) ≡ part 3 n s
+pub part-saved : (s : List ℕ) (t a : ℕ) (p : Phase) (n : ℕ) → 3 + n ≤ 40 → part 3 n (saved s t a p) ≡ part 3 n s
 unfolding saved
 part-saved s t a p n l = part-put-other s 3 n 40 (t ∷ a ∷ rowWords (rowOf p)) (first l)
 
