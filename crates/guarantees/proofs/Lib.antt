@@ -5,3 +5,4 @@ pub mod Good
 pub mod Keeps
 pub mod Reached
 pub mod Stays
+pub mod Accounts

@@ -77,7 +77,7 @@ tower-tag true false true true e f h = absurd (omega arith)
 tower-tag true false true false false f h = absurd (omega arith)
 tower-tag true false true false true f h = refl
 
-level-tag : (s : List ℕ) → level s ≡ 3 → getD s 0 0 ≡ 3
+pub level-tag : (s : List ℕ) → level s ≡ 3 → getD s 0 0 ≡ 3
 unfolding level
 level-tag s h =
     eqb-true (getD s 0 0) 3 (tower-tag (memoryOk s) (eqb (getD s 0 0) 1) (diskOk s) (eqb (getD s 0 0) 2) (eqb (getD s 0 0) 3) (enabledOk s) h)
@@ -128,7 +128,7 @@ queue-part s q chain stage start n h =
 queue-map : (s : List ℕ) (q : Queue) (chain stage start : ℕ) → getD s 2 0 ≤ 8 → mapWords (queueSet s q chain stage start) ≡ mapWords s
 queue-map s q chain stage start h = rw (queue-other s q chain stage start 2 (omega arith) (omega arith)) (queue-part s q chain stage start (3 * getD s 2 0) (omega arith))
 
-queue-phase : (s : List ℕ) (q : Queue) (chain stage start : ℕ) → 52 ≤ length s → phaseOf (rowAt (queueSet s q chain stage start)) ≡ Poll
+pub queue-phase : (s : List ℕ) (q : Queue) (chain stage start : ℕ) → 52 ≤ length s → phaseOf (rowAt (queueSet s q chain stage start)) ≡ Poll
 unfolding rowAt rowWords rowOf phaseOf
 queue-phase s q chain stage start l =
     rw (queue-word s q chain stage start 8 l (omega arith))
@@ -155,7 +155,7 @@ Kept w = 52 ≤ length (w .state) → level (w .state) ≡ 3 → Made (w .state)
 not-three : (s chain : List ℕ) (n : ℕ) → getD s 0 0 ≡ n → (n ≡ 3 → ⊥) → 52 ≤ length s → level s ≡ 3 → Made s chain
 not-three s chain n e f l h = absurd (f (sym e ∙ level-tag s h))
 
-disk-tag : (s : List ℕ) (start sectors ro : ℕ) (id : List ℕ) (b : ℕ) → 0 < length s → getD (diskSet s start sectors ro id b) 0 0 ≡ 2
+pub disk-tag : (s : List ℕ) (start sectors ro : ℕ) (id : List ℕ) (b : ℕ) → 0 < length s → getD (diskSet s start sectors ro id b) 0 0 ≡ 2
 unfolding diskSet
 disk-tag s start sectors ro id b h = put-below (set s 0 2) 27 _ 0 (omega arith) ∙ getD-set-same s 0 2 0 h
 
@@ -224,7 +224,7 @@ kept-step s mem backing chain stage b k =
     by-step (λ (o : Called). 52 ≤ length (o .state) → level (o .state) ≡ 3 → Made (o .state) (o .chain)) s mem backing chain stage (λ n. k)
     (λ g l h. made-step s mem backing chain stage b g (k (g .words-long) (g .enabled)))
 
-kept-call : (w : World) (c : Call) → BytesNow c → Kept w → Kept (left (ran w c))
+pub kept-call : (w : World) (c : Call) → BytesNow c → Kept w → Kept (left (ran w c))
 unfolding ran BytesNow
 kept-call w (memory words m) b k = kept-memory (w .state) (w .chain) words m k
 kept-call w (disk start sectors ro id backing) b k = kept-disk (w .state) (w .chain) start sectors ro id backing k

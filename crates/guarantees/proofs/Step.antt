@@ -22,21 +22,26 @@ use Rattle.hostiledisk.proofs.Laws.{level-three}
 use Rattle.model.specs.declared.Phase.{Phase}
 use Rattle.model.specs.declared.Phase.the-variants.{Poll, Entry, Chain, Header, Payload, Answer, Publish, Broken}
 
--- what holds of a call that touches nothing, and of a step on words that passed every test, holds of hd_step
-pub by-step : (P : Called → Type 0) (s mem backing chain stage : List ℕ) → ((n : ℕ) → P (untouched n s mem backing chain stage))
+-- what holds of a call that touches nothing (it answers 3 or 4), and of a step on words that passed every test, holds of hd_step
+pub by-answer : (P : Called → Type 0) (s mem backing chain stage : List ℕ) → ((n : ℕ) → 3 ≤ n → P (untouched n s mem backing chain stage))
     → (Going s (phaseOf (rowAt s)) (length mem) (length backing) chain (length stage) → P (steppedOn s mem backing chain stage))
     → P (hdStep s mem backing chain stage)
 unfolding hdStep
-by-step P s mem backing chain stage u g =
-    on P (ltb (length s) stateWords) (λ a. u 4)
+by-answer P s mem backing chain stage u g =
+    on P (ltb (length s) stateWords) (λ a. u 4 (omega arith))
     (λ a. on P (eqb (level s) 3)
-    (λ b. on P (isBroken (phaseOf (rowAt s))) (λ c. u 3)
+    (λ b. on P (isBroken (phaseOf (rowAt s))) (λ c. u 3 (omega arith))
     (λ c. on P (longEnough s (length mem) (length backing) (length chain) (length stage))
     (λ d. on P (ready (getD s 1 0) chain (phaseOf (rowAt s)))
     (λ e. g (record { words-long = ltb-false (length s) 52 a; enabled = eqb-true (level s) 3 b; phase-is = refl; slices-long = d; chain-ready = e }))
-    (λ e. u 4))
-    (λ d. u 4)))
-    (λ b. u 4))
+    (λ e. u 4 (omega arith)))
+    (λ d. u 4 (omega arith))))
+    (λ b. u 4 (omega arith)))
+
+pub by-step : (P : Called → Type 0) (s mem backing chain stage : List ℕ) → ((n : ℕ) → P (untouched n s mem backing chain stage))
+    → (Going s (phaseOf (rowAt s)) (length mem) (length backing) chain (length stage) → P (steppedOn s mem backing chain stage))
+    → P (hdStep s mem backing chain stage)
+by-step P s mem backing chain stage u g = by-answer P s mem backing chain stage (λ n h. u n) g
 
 length-part-le : (k n : ℕ) (m : List ℕ) → length (part k n m) ≤ n
 unfolding part
