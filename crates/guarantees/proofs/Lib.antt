@@ -6,3 +6,5 @@ pub mod Keeps
 pub mod Reached
 pub mod Stays
 pub mod Accounts
+pub mod Order
+pub mod Disk
