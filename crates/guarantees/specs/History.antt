@@ -1,19 +1,21 @@
 -- Histories: any sequence of calls, refused ones too, with guest memory replaced at will before each step.
 use Prim.Native.Nat.{ℕ, _+_, _*_, _≤_, _<_}
-use mathlib.Core.List.{List, [], _∷_}
+use mathlib.Core.List.{List, [], _∷_, _++_}
 use mathlib.Core.Path.{_≡_}
 use lib.ListN.{getD, length}
-use lib.Dec.{eqb}
+use lib.Dec.{eqb, ltb}
 use mathlib.Core.Bool.{Bool, true, false}
 use Rattle.model.specs.Pick.{pick}
 use Rattle.model.proofs.Lists.{Apart}
-use Rattle.model.specs.Step.{Span, want, usedAt, writables}
+use Rattle.model.specs.Step.{Span, want, usedAt, writables, Store, diskStores, effect}
+use Rattle.model.specs.Bytes.{part}
+use Rattle.model.specs.Sane.{ready}
 use Rattle.device.specs.Turn.{cfgOf}
-use Rattle.words.specs.Layout.{rowAt, phaseOf, configAt, mapWords}
+use Rattle.words.specs.Layout.{stateWords, rowAt, phaseOf, configAt, mapWords, level}
 use Rattle.model.specs.declared.Queue.{Queue}
 use Rattle.model.specs.declared.Phase.{Phase}
 use Rattle.model.specs.declared.Phase.the-variants.{Poll, Entry, Chain, Header, Payload, Answer, Publish, Broken}
-use Rattle.hostiledisk.specs.Calls.{Set, Called, hdMemory, hdDisk, hdEnableAt, hdReset, hdStep}
+use Rattle.hostiledisk.specs.Calls.{Set, Called, hdMemory, hdDisk, hdEnableAt, hdReset, hdStep, isBroken, longEnough}
 
 -- a call; hd_enable is hd_enable_at with start 0. A step comes with the guest memory that it finds, whatever that holds.
 pub data Call : Type 0 where
@@ -174,3 +176,36 @@ BytesNow (step mem) = (i : ℕ) → getD mem i 0 < 256
 unfoldable pub Bytes : List Call → Type 0
 Bytes [] = Unit {0}
 Bytes (c ∷ cs) = BytesNow c × Bytes cs
+
+-- what a call writes to the disk, relative to its first byte: the payload of an accepted write, in the step that carries it out
+unfoldable pub written : World → Call → List Store
+written w (memory words m) = []
+written w (disk start sectors ro id backing) = []
+written w (enable size desc avail used chain stage start) = []
+written w reset = []
+written w (step mem) =
+    pick (ltb (length (w .state)) stateWords) []
+    (pick (eqb (level (w .state)) 3)
+    (pick (isBroken (phaseOf (rowAt (w .state)))) []
+    (pick (longEnough (w .state) (length mem) (length (w .backing)) (length (w .chain)) (length (w .stage)))
+    (pick (ready (getD (w .state) 1 0) (w .chain) (phaseOf (rowAt (w .state))))
+    (diskStores (effect (w .chain) (w .stage) (phaseOf (rowAt (w .state))) (part (wanted (w .state) (w .chain) .at) (wanted (w .state) (w .chain) .len) mem)))
+    [])
+    []))
+    [])
+
+unfoldable pub writtenIn : World → List Call → List Store
+writtenIn w [] = []
+writtenIn w (c ∷ cs) = written w c ++ writtenIn (left (ran w c)) cs
+
+-- the disk is the n bytes from d on, whenever a step is made
+unfoldable pub DiskNow : ℕ → ℕ → World → Call → Type 0
+DiskNow d n w (memory words m) = Unit {0}
+DiskNow d n w (disk start sectors ro id backing) = Unit {0}
+DiskNow d n w (enable size desc avail used chain stage start) = Unit {0}
+DiskNow d n w reset = Unit {0}
+DiskNow d n w (step mem) = (getD (w .state) 27 0 ≡ d) × (512 * getD (w .state) 28 0 ≡ n)
+
+unfoldable pub DiskIs : ℕ → ℕ → World → List Call → Type 0
+DiskIs d n w [] = Unit {0}
+DiskIs d n w (c ∷ cs) = DiskNow d n w c × DiskIs d n (left (ran w c)) cs
