@@ -12,6 +12,10 @@ use Rattle.model.specs.Step.{Effect, nothing, stores, answers, publishes, Store
 use Rattle.model.specs.Sane.{ready}
 use Rattle.model.proofs.Lists.{Disjoint, first, after, part-put, part-put-in, part-put-other, length-put, part-part}
 use Rattle.model.proofs.Step.{apply-append}
+use Rattle.model.proofs.Tests.{on}
+use borrow.Author.Tests.{ltb-false, eqb-true}
+use Rattle.guarantees.proofs.Open.{locked}
+use Rattle.guarantees.proofs.Reached.{Kept}
 use Rattle.words.specs.Layout.{stateWords, rowAt, phaseOf, configAt, mapWords, level}
 use Rattle.device.specs.Turn.{cfgOf, stateOf}
 use Rattle.hostiledisk.specs.Calls.{Called, stepped, steppedOn, Going, hdStep, isBroken, longEnough}
@@ -97,3 +101,23 @@ unfolding apply
 read-back at a k bs xs m h l s =
     spared (at + a) k xs (put m at bs) s
     ∙ (sym (part-part at a (length bs) k (put m at bs) l) ∙ ap (part a k) (part-put m at (length bs) bs refl h))
+
+-- on a read-only disk that set-up and steps made, no call writes to the disk
+pub read-only : (w : World) (c : Call) → Kept w → (getD (w .state) 29 0 ≡ 0 → ⊥) → written w c ≡ []
+unfolding written
+read-only w (memory words m) k n = refl
+read-only w (disk start sectors ro id backing) k n = refl
+read-only w (enable size desc avail used chain stage start) k n = refl
+read-only w reset k n = refl
+read-only w (stepOver mem) k n =
+    let P : List Store → Type 0 = λ xs. xs ≡ [] in
+    on P (ltb (length (w .state)) stateWords) (λ a. refl)
+    (λ a. on P (eqb (level (w .state)) 3)
+    (λ b. on P (isBroken (phaseOf (rowAt (w .state)))) (λ c. refl)
+    (λ c. on P (longEnough (w .state) (length mem) (length (w .backing)) (length (w .chain)) (length (w .stage)))
+    (λ d. on P (ready (getD (w .state) 1 0) (w .chain) (phaseOf (rowAt (w .state))))
+    (λ e. locked (getD (w .state) 29 0) (w .chain) (w .stage) (part (wanted (w .state) (w .chain) .at) (wanted (w .state) (w .chain) .len) mem) (phaseOf (rowAt (w .state))) n
+    (k (ltb-false (length (w .state)) 52 a) (eqb-true (level (w .state)) 3 b) .open-disk))
+    (λ e. refl))
+    (λ d. refl)))
+    (λ b. refl))

@@ -3,8 +3,11 @@ pub mod Walls
 pub mod Memory
 pub mod Good
 pub mod Keeps
+pub mod Open
 pub mod Reached
 pub mod Stays
 pub mod Accounts
 pub mod Order
 pub mod Disk
+pub mod Inside
+pub mod SetUp

@@ -24,9 +24,10 @@ use Rattle.device.specs.Turn.{cfgOf, stateOf}
 use Rattle.hostiledisk.specs.Calls.{Set, Called, told, flag, hdMemory, hdDisk, diskSet, queueSet, enabledWith, hdEnableAt, hdReset, hdStep, untouched, stepped, steppedOn, Going}
 use Rattle.hostiledisk.proofs.Laws.{level-two, level-three, memory-ok, fit-of}
 use Rattle.guarantees.specs.History.{Call, memory, disk, enable, reset, step as stepOver, World, ran, left, run, BytesNow, Bytes}
-use Rattle.guarantees.specs.Good.{Good, Area, Made}
+use Rattle.guarantees.specs.Good.{Good, Open, Area, Made}
 use Rattle.guarantees.proofs.Step.{by-step}
 use Rattle.guarantees.proofs.Keeps.{keeps-next, keeps-publish}
+use Rattle.guarantees.proofs.Open.{keeps-open}
 use Rattle.guarantees.proofs.Good.{good-ready}
 use Rattle.model.specs.declared.Found.{Found}
 use Rattle.model.specs.declared.Found.the-variants.{At, Nothing}
@@ -46,14 +47,15 @@ map-saved s t a p h = rw (others-saved s t a p 2 (below (omega arith))) (part-sa
 
 -- a step of the words that were made
 made-saved : (s : List ℕ) (t a : ℕ) (p : Phase) (chain chain₂ : List ℕ) → 52 ≤ length s → getD s 2 0 ≤ 8 → Made s chain
-    → Good (regions (mapWords s)) (getD s 34 0) (getD s 28 0) chain₂ p → Made (saved s t a p) chain₂
-made-saved s t a p chain chain₂ l h m g =
+    → Good (regions (mapWords s)) (getD s 34 0) (getD s 28 0) chain₂ p → Open (getD s 29 0) p → Made (saved s t a p) chain₂
+made-saved s t a p chain chain₂ l h m g o =
     let w : (i : ℕ) → i < 40 → getD (saved s t a p) i 0 ≡ getD s i 0 = λ i u. others-saved s t a p i (below u) in
     record {
       desc-area = rw (map-saved s t a p h, w 34 (omega arith), w 35 (omega arith)) (m .desc-area);
       avail-area = rw (map-saved s t a p h, w 34 (omega arith), w 36 (omega arith)) (m .avail-area);
       used-area = rw (map-saved s t a p h, w 34 (omega arith), w 37 (omega arith)) (m .used-area);
       good = rw (map-saved s t a p h, w 34 (omega arith), w 28 (omega arith), phase-saved s t a p l) g;
+      open-disk = rw (w 29 (omega arith), phase-saved s t a p l) o;
     }
 
 made-step : (s mem backing chain stage : List ℕ) → ((i : ℕ) → getD mem i 0 < 256) → Going s (phaseOf (rowAt s)) (length mem) (length backing) chain (length stage) → Made s chain
@@ -67,6 +69,7 @@ made-step s mem backing chain stage b g m =
     made-saved s (counted (effect chain stage p f) (getD s 40 0)) (counted (effect chain stage p f) (getD s 41 0)) (next c (getD s 40 0) chain stage p f) chain (chained c chain p f)
     (g .words-long) (level-three s (g .enabled) .memory .few) m
     (keeps-next c (getD s 40 0) (getD s 41 0) mem chain stage p b (x .size-some) (x .chain-long) (m .good))
+    (keeps-open c (getD s 40 0) chain stage p f (m .open-disk))
 
 -- the tower of `level` answers 3 only where word 0 is 3
 tower-tag : (a b c d e f : Bool) → _≡_ {A = ℕ} (pick a (pick b 1 (pick c (pick d 2 (pick e (pick f 3 0) 0)) 0)) 0) 3 → e ≡ true
@@ -136,7 +139,7 @@ queue-phase s q chain stage start l =
 made-enable : (s : List ℕ) (q : Queue) (chain stage start : ℕ) (held : List ℕ) → 52 ≤ length s → getD s 2 0 ≤ 8
     → Area (regions (mapWords s)) (q .desc) (16 * q .size) × Area (regions (mapWords s)) (q .avail) (6 + 2 * q .size) × Area (regions (mapWords s)) (q .used) (6 + 8 * q .size)
     → Made (queueSet s q chain stage start) held
-unfolding Good rowWords
+unfolding Good Open rowWords
 made-enable s q chain stage start held l h a =
     let w : (j : ℕ) → j < 18 → getD (queueSet s q chain stage start) (34 + j) 0 ≡ getD (q .size ∷ q .desc ∷ q .avail ∷ q .used ∷ chain ∷ stage ∷ start ∷ start ∷ rowWords (rowOf Poll)) j 0 =
     λ j u. queue-word s q chain stage start j l u in
@@ -145,6 +148,7 @@ made-enable s q chain stage start held l h a =
       avail-area = rw (queue-map s q chain stage start h, w 0 (omega arith), w 2 (omega arith)) (a .1);
       used-area = rw (queue-map s q chain stage start h, w 0 (omega arith), w 3 (omega arith)) (a .2);
       good = rw (queue-phase s q chain stage start l) tt;
+      open-disk = rw (queue-phase s q chain stage start l) tt;
     }
 
 -- if the queue is enabled, set-up and steps made it so

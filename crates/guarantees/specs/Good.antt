@@ -51,6 +51,17 @@ Good rs q sectors chain (Answer k job got) = WalkGood rs q chain k × (k .reads 
 Good rs q sectors chain (Publish k got) = WalkGood rs q chain k × (k .reads < k .count) × (got ≤ k .r)
 Good rs q sectors chain (Broken reason head count) = (1 ≤ reason) × (reason ≤ 8) × (head < q) × (count ≤ q + 1)
 
+-- a payload is fetched for a disk that is not read-only
+unfoldable pub Open : ℕ → Phase → Type 0
+Open ro Poll = Unit {0}
+Open ro Entry = Unit {0}
+Open ro (Chain k cur) = Unit {0}
+Open ro (Header k p got) = Unit {0}
+Open ro (Payload k p s got) = ro ≡ 0
+Open ro (Answer k job got) = Unit {0}
+Open ro (Publish k got) = Unit {0}
+Open ro (Broken reason head count) = Unit {0}
+
 -- an area of n bytes that lies in one registered region
 pub record Area (rs : List Region) (at n : ℕ) : Type 0 where
   pub address : ℕ
@@ -62,3 +73,4 @@ pub record Made (s chain : List ℕ) : Type 0 where
   pub avail-area : Area (regions (mapWords s)) (getD s 36 0) (6 + 2 * getD s 34 0)
   pub used-area : Area (regions (mapWords s)) (getD s 37 0) (6 + 8 * getD s 34 0)
   pub good : Good (regions (mapWords s)) (getD s 34 0) (getD s 28 0) chain (phaseOf (rowAt s))
+  pub open-disk : Open (getD s 29 0) (phaseOf (rowAt s))
