@@ -11,3 +11,4 @@ pub mod Order
 pub mod Disk
 pub mod Inside
 pub mod SetUp
+pub mod Contracts

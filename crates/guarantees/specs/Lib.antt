@@ -1,3 +1,4 @@
 pub mod History
 pub mod Good
 pub mod Accounts
+pub mod Contracts
