@@ -27,3 +27,25 @@ fn digits(x: u8) {
 pub fn line() {
     text(b"\n");
 }
+
+// Each number after a space.
+pub fn numbers(n: &[usize]) {
+    let mut i = 0;
+    while i < n.len() {
+        text(b" ");
+        number(n[i]);
+        i += 1;
+    }
+}
+
+// n bytes from place k on.
+pub fn part(b: &[u8], k: usize, n: usize) {
+    if b.len() < k {
+        return;
+    }
+    if b.len() - k < n {
+        return;
+    }
+    let e = k + n;
+    hex(&b[k..e]);
+}
