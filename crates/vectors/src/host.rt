@@ -14,35 +14,27 @@ pub fn fill_disk(backing: &mut Bytes) {
     }
 }
 
-pub fn set_memory(state: &mut [usize]) {
-    hostiledisk::hd_memory(state, &[0x8000_0000, 65536, 0], 65536);
+pub fn set_memory(state: &mut [usize], len: usize) {
+    hostiledisk::hd_memory(state, &[0x8000_0000, 65536, 0], len);
 }
 
-pub fn set_disk(state: &mut [usize], read_only: usize) {
-    hostiledisk::hd_disk(
-        state,
-        1024,
-        64,
-        read_only,
-        b"SCRATCH-0007\0\0\0\0\0\0\0\0",
-        65536,
-    );
+pub fn set_disk(state: &mut [usize], read_only: usize, len: usize) {
+    let id = b"SCRATCH-0007\0\0\0\0\0\0\0\0";
+    hostiledisk::hd_disk(state, 1024, 64, read_only, id, len);
+}
+
+pub fn set_queue(state: &mut [usize], chain: usize, stage: usize, start: usize) -> usize {
+    let d = 0x8000_1000;
+    let a = 0x8000_2000;
+    let u = 0x8000_3000;
+    hostiledisk::hd_enable_at(state, 8, d, a, u, chain, stage, start)
 }
 
 // A device with both counters at start.
 pub fn set_up(state: &mut [usize], read_only: usize, start: usize) {
-    set_memory(state);
-    set_disk(state, read_only);
-    hostiledisk::hd_enable_at(
-        state,
-        8,
-        0x8000_1000,
-        0x8000_2000,
-        0x8000_3000,
-        16,
-        1048576,
-        start,
-    );
+    set_memory(state, 65536);
+    set_disk(state, read_only, 65536);
+    set_queue(state, 16, 1048576, start);
 }
 
 fn stops(answer: usize) -> bool {

@@ -14,6 +14,7 @@ mod requests;
 mod say;
 mod setup;
 mod split;
+mod states;
 mod table;
 mod v1;
 
@@ -48,13 +49,15 @@ fn rows_03(mem: &mut Bytes, backing: &mut Bytes, stage: &mut Stage, disk: &Bytes
     split::out(mem, backing, stage, disk);
 }
 
+// The C interface, §2.
 fn refused(mem: &mut Bytes, backing: &mut Bytes, stage: &mut Stage) {
     refusals::memories();
     refusals::disks();
-    refusals::queues();
+    refusals::sizes();
+    refusals::places();
     refusals::rooms();
-    refusals::states(mem, backing, stage);
-    refusals::slices(mem, backing, stage);
+    states::states(mem, backing, stage);
+    states::slices(mem, backing, stage);
 }
 
 fn main() {

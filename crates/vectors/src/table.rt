@@ -38,26 +38,20 @@ fn row(name: &[u8], pokes: &[usize], mem: &mut Bytes, backing: &mut Bytes, stage
 
 pub fn queue(m: &mut Bytes, b: &mut Bytes, s: &mut Stage) {
     row(b"idx 9", &[0x2002, 2, 9], m, b, s);
-    row(
-        b"idx 8, all entries 0",
-        &[0x2002, 2, 8, 0x2004, 8, 0, 0x200c, 8, 0],
-        m,
-        b,
-        s,
-    );
+    let all = [0x2002, 2, 8, 0x2004, 8, 0, 0x200c, 8, 0];
+    row(b"idx 8, all entries 0", &all, m, b, s);
     row(b"entry 8", &[0x2004, 2, 8], m, b, s);
     row(b"descriptor 0: next 8", &[0x100e, 2, 8], m, b, s);
     row(b"descriptor 0: next 0", &[0x100e, 2, 0], m, b, s);
-    row(
-        b"descriptor 1: NEXT and WRITE, next 1",
-        &[0x101c, 2, 3, 0x101e, 2, 1],
-        m,
-        b,
-        s,
-    );
+    let tail = [0x101c, 2, 3, 0x101e, 2, 1];
+    row(b"descriptor 1: NEXT and WRITE, next 1", &tail, m, b, s);
     row(b"descriptor 0: flags 5", &[0x100c, 2, 5], m, b, s);
     row(b"descriptor 0: flags 9", &[0x100c, 2, 9], m, b, s);
     row(b"descriptor 1: len 0", &[0x1018, 4, 0], m, b, s);
+}
+
+fn row_at(name: &[u8], addr: usize, m: &mut Bytes, b: &mut Bytes, s: &mut Stage) {
+    row(name, &[0x1010, 8, addr], m, b, s);
 }
 
 pub fn places(m: &mut Bytes, b: &mut Bytes, s: &mut Stage) {
@@ -65,34 +59,13 @@ pub fn places(m: &mut Bytes, b: &mut Bytes, s: &mut Stage) {
     guest::change(m, &[0x1010, 8, 0x8000_fdff]);
     say::text(b"descriptor 1 at 0x8000fdff");
     play(m, b, s, 0xfdff, 0x10000);
-    row(
-        b"descriptor 1 at 0x8000fe00",
-        &[0x1010, 8, 0x8000_fe00],
-        m,
-        b,
-        s,
-    );
-    row(
-        b"descriptor 1 at 0x7fffffff",
-        &[0x1010, 8, 0x7fff_ffff],
-        m,
-        b,
-        s,
-    );
-    row(
-        b"descriptor 1 at 2^64 - 1",
-        &[0x1010, 8, 0xffff_ffff_ffff_ffff],
-        m,
-        b,
-        s,
-    );
-    row(
-        b"descriptor 1 at 0x80000000 with len 2^32 - 1",
-        &[0x1010, 8, 0x8000_0000, 0x1018, 4, 0xffff_ffff],
-        m,
-        b,
-        s,
-    );
+    row_at(b"descriptor 1 at 0x8000fe00", 0x8000_fe00, m, b, s);
+    row_at(b"descriptor 1 at 0x7fffffff", 0x7fff_ffff, m, b, s);
+    let top = 0xffff_ffff_ffff_ffff;
+    row_at(b"descriptor 1 at 2^64 - 1", top, m, b, s);
+    let long = [0x1010, 8, 0x8000_0000, 0x1018, 4, 0xffff_ffff];
+    let name = b"descriptor 1 at 0x80000000 with len 2^32 - 1";
+    row(name, &long, m, b, s);
 }
 
 fn writable_first(m: &mut Bytes, b: &mut Bytes, s: &mut Stage) {
