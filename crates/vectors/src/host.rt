@@ -69,7 +69,7 @@ pub fn run(
     lines: bool,
 ) {
     let mut chain = [0; 16];
-    let mut i = 0;
+    let mut i = 0usize;
     while i < 64 {
         let answer = hostiledisk::hd_step(state, mem, backing, &mut chain, stage);
         tell(state, answer, lines);
