@@ -3,28 +3,16 @@
 
 pub type Bytes = [u8; 65536];
 
-// n bytes of v, 2, 4 or 8, at place k of the slice.
-fn poke(m: &mut Bytes, k: usize, n: usize, v: usize) {
+// n bytes of v, 2, 4 or 8, at place k of the slice; none for another n.
+pub fn poke(m: &mut Bytes, k: usize, n: usize, v: usize) {
     if 65528 < k {
         return;
     }
-    if n == 2 {
-        wire::put16(m, k, v);
-        return;
-    }
-    if n == 4 {
-        wire::put32(m, k, v);
-        return;
-    }
-    wire::put64(m, k, v);
-}
-
-// Three words to a change: place, number of bytes, value.
-pub fn change(m: &mut Bytes, pokes: &[usize]) {
-    let mut i = 0;
-    while i + 2 < pokes.len() {
-        poke(m, pokes[i], pokes[i + 1], pokes[i + 2]);
-        i += 3;
+    match n {
+        2 => wire::put16(m, k, v),
+        4 => wire::put32(m, k, v),
+        8 => wire::put64(m, k, v),
+        _ => {}
     }
 }
 
@@ -45,10 +33,11 @@ pub fn ask(m: &mut Bytes, kind: usize, sector: usize, r: usize) {
     offer(m, 0);
 }
 
-// Available ring 00 00 01 00 and the head, used ring 00 00 00 00.
+// Available ring 00 00 01 00, the head and seven entries of 0; used ring 00 00 00 00.
 pub fn offer(m: &mut Bytes, head: usize) {
     poke(m, 0x2000, 4, 0x10000);
-    poke(m, 0x2004, 2, head);
+    poke(m, 0x2004, 8, head);
+    poke(m, 0x200c, 8, 0);
     poke(m, 0x3000, 4, 0);
 }
 

@@ -24,6 +24,7 @@ fn edges() {
     setup::how_many();
     setup::kept();
     ranges::one_region();
+    ranges::one_region_whole();
     ranges::two_regions();
     bytes::numbers16();
     bytes::numbers32();
@@ -35,28 +36,28 @@ fn edges() {
 fn rows_01(mem: &mut Bytes, backing: &mut Bytes, stage: &mut Stage) {
     v1::v1(mem, backing, stage);
     v1::wrap(mem, backing, stage);
-    table::queue(mem, backing, stage);
-    table::places(mem, backing, stage);
-    table::chains(mem, backing, stage);
+    table::rows(mem, backing, stage);
+    table::eights(mem, backing, stage);
 }
 
 // 03 §6.
 fn rows_03(mem: &mut Bytes, backing: &mut Bytes, stage: &mut Stage, disk: &Bytes) {
-    requests::reads(mem, backing, stage);
-    requests::others(mem, backing, stage);
-    requests::shorts(mem, backing, stage);
+    requests::three(mem, backing, stage);
+    requests::rows(mem, backing, stage);
     requests::seven(mem, backing, stage);
     split::out(mem, backing, stage, disk);
 }
 
 // The C interface, §2.
 fn refused(mem: &mut Bytes, backing: &mut Bytes, stage: &mut Stage) {
-    refusals::memories();
+    refusals::counts();
+    refusals::regions();
     refusals::disks();
-    refusals::sizes();
-    refusals::places();
+    refusals::queues();
     refusals::rooms();
-    states::states(mem, backing, stage);
+    states::zeros(mem, backing, stage);
+    states::enabled(mem, backing, stage);
+    states::short(mem, backing, stage);
     states::slices(mem, backing, stage);
 }
 

@@ -19,7 +19,10 @@ fn lay(m: &mut Bytes) {
     guest::descriptor(m, 3, 0x8000_4000, 10, 1, 6);
     guest::descriptor(m, 6, 0x8000_4100, 518, 1, 4);
     guest::descriptor(m, 4, 0x8000_6000, 1, 2, 0);
-    guest::change(m, &[0x4000, 8, 1, 0x4008, 2, 5, 0x4100, 4, 0, 0x4104, 2, 0]);
+    guest::poke(m, 0x4000, 8, 1);
+    guest::poke(m, 0x4008, 2, 5);
+    guest::poke(m, 0x4100, 4, 0);
+    guest::poke(m, 0x4104, 2, 0);
     guest::offer(m, 3);
     payload(m);
 }

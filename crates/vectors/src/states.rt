@@ -1,4 +1,5 @@
 // What the calls answer to a state that is too short, of zeros, or enabled; and a step to slices that are too short.
+ghost use Prim.Native.Nat.{_≤_};
 use crate::guest::Bytes;
 use crate::host;
 use crate::host::Stage;
@@ -45,41 +46,65 @@ fn calls(state: &mut [usize], m: &mut Bytes, b: &mut Bytes, s: &mut Stage) {
     step(b"hd_step again", state, m, b, s);
     set_up(state);
     status(state);
+    reset(state, m, b, s);
+}
+
+fn reset(state: &mut [usize], m: &mut Bytes, b: &mut Bytes, s: &mut Stage) {
     told(b"hd_reset", hostiledisk::hd_reset(state));
     step(b"hd_step after it", state, m, b, s);
 }
 
-// Nobody has laid anything into the memory of the enabled one: its idx is 0xeeee.
-pub fn states(m: &mut Bytes, b: &mut Bytes, s: &mut Stage) {
+pub fn zeros(m: &mut Bytes, b: &mut Bytes, s: &mut Stage) {
     let mut state = [0; 52];
     say::text(b"A state of zeros:\n");
     calls(&mut state, m, b, s);
+}
+
+pub fn short(m: &mut Bytes, b: &mut Bytes, s: &mut Stage) {
+    let mut state = [0; 51];
+    say::text(b"A state of 51 words:\n");
+    calls(&mut state, m, b, s);
+}
+
+// Nobody has laid anything into its memory.
+pub fn enabled(m: &mut Bytes, b: &mut Bytes, s: &mut Stage) {
+    let mut state = [0; 52];
     host::set_up(&mut state, 0, 0);
     say::text(b"An enabled queue, idx 0xeeee:\n");
     calls(&mut state, m, b, s);
-    let mut short = [0; 51];
-    say::text(b"A state of 51 words:\n");
-    calls(&mut short, m, b, s);
 }
 
-// The device of 01 §6, told these lengths of guest memory, backing slice, chain memory and staging memory.
-fn lengths(state: &mut [usize], mem: usize, backing: usize, chain: usize, stage: usize) {
-    host::set_memory(state, mem);
-    host::set_disk(state, 0, backing);
-    host::set_queue(state, chain, stage, 0);
+// 1 if they are the same, else 0.
+fn one(i: usize, k: usize) -> usize
+    ensures { λ r. ⌜ r ≤ 1 ⌝ }
+{
+    if i == k {
+        return 1;
+    }
+    0
+}
+
+// The device of 01 §6, told one more than there is of the slice of this number.
+fn told_more(state: &mut [usize], i: usize) {
+    host::set_memory(state, 65536 + one(i, 0));
+    host::set_disk(state, 0, 65536 + one(i, 1));
+    host::set_queue(state, 16 + one(i, 2), 1048576 + one(i, 3), 0);
+}
+
+fn slice_name(i: usize) {
+    let names =
+        b"Guest memory too short|Backing slice too short|Chain memory too short|Staging memory too short|All slices long enough|";
+    say::nth(names, i);
 }
 
 // A slice is shorter than set-up was told; then all are long enough.
 pub fn slices(m: &mut Bytes, b: &mut Bytes, s: &mut Stage) {
-    let mut state = [0; 52];
-    lengths(&mut state, 65537, 65536, 16, 1048576);
-    step(b"hd_step, guest memory too short", &mut state, m, b, s);
-    lengths(&mut state, 65536, 65537, 16, 1048576);
-    step(b"hd_step, backing slice too short", &mut state, m, b, s);
-    lengths(&mut state, 65536, 65536, 17, 1048576);
-    step(b"hd_step, chain memory too short", &mut state, m, b, s);
-    lengths(&mut state, 65536, 65536, 16, 1048577);
-    step(b"hd_step, staging memory too short", &mut state, m, b, s);
-    lengths(&mut state, 65536, 65536, 16, 1048576);
-    step(b"hd_step, all long enough", &mut state, m, b, s);
+    let mut i = 0;
+    while i < 5 {
+        let mut state = [0; 52];
+        told_more(&mut state, i);
+        slice_name(i);
+        step(b", hd_step", &mut state, m, b, s);
+        i += 1;
+    }
 }

@@ -51,20 +51,27 @@ pub fn v1(mem: &mut Bytes, backing: &mut Bytes, stage: &mut Stage) {
 }
 
 // A flush, offered at place 7 by an idx of 0 after 65,535; place 0 has an entry that would break the queue.
-pub fn wrap(mem: &mut Bytes, backing: &mut Bytes, stage: &mut Stage) {
+fn lay_wrap(mem: &mut Bytes) {
     guest::joined(mem, 4, 0, 16, 1);
-    guest::change(
-        mem,
-        &[0x2002, 2, 0, 0x2004, 2, 8, 0x2012, 2, 0, 0x3002, 2, 65535],
-    );
-    let before = *mem;
-    let mut state = [0; 52];
-    host::set_up(&mut state, 0, 65535);
+    guest::poke(mem, 0x2002, 2, 0);
+    guest::poke(mem, 0x2004, 2, 8);
+    guest::poke(mem, 0x3002, 2, 65535);
     say::text(b"Wrap: taken = answered = 65535, idx 0\n");
-    host::run(&mut state, mem, backing, stage, true);
+}
+
+fn answer_wrap(mem: &Bytes) {
     areas::show(b"Wrap: used idx", mem, 0x3002, 2);
     areas::show(b", place 7 at 0x8000303c", mem, 0x303c, 8);
     areas::show(b", status", mem, 0x5000, 1);
+}
+
+pub fn wrap(mem: &mut Bytes, backing: &mut Bytes, stage: &mut Stage) {
+    lay_wrap(mem);
+    let before = *mem;
+    let mut state = [0; 52];
+    host::set_up(&mut state, 0, 65535);
+    host::run(&mut state, mem, backing, stage, true);
+    answer_wrap(mem);
     areas::changed(mem, &before, 0x5000, 0x5001);
     areas::clear(mem, 0x5000, 0x5001);
 }
