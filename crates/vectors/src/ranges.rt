@@ -44,6 +44,11 @@ pub fn one_region() {
     ask(b"ends one byte later", &map, m, 0x8000_fe00, 513);
     ask(b"the first byte", &map, m, 0x8000_0000, 1);
     ask(b"begins one byte before", &map, m, 0x7fff_ffff, 513);
+}
+
+pub fn one_region_whole() {
+    let map = [0x8000_0000, 65536, 0];
+    let m = 65536;
     ask(b"the whole region", &map, m, 0x8000_0000, 65536);
     ask(b"longer than the region", &map, m, 0x8000_0000, 0xffff_ffff);
     ask(b"no bytes", &map, m, 0x8000_0000, 0);
