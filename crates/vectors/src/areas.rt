@@ -4,12 +4,14 @@ use crate::guest;
 use crate::guest::Bytes;
 use crate::say;
 
-// How many bytes changed: of the descriptors, of the available ring, of the used ring, and of the places from up to to.
+// How many bytes changed: of the descriptors, of the available ring, of the used ring, of the header,
+// and of the places from up to to.
 pub fn changed(mem: &Bytes, before: &Bytes, from: usize, to: usize) {
     say::text(b", changed");
     count(mem, before, 0x1000, 0x1080);
     count(mem, before, 0x2000, 0x2016);
     count(mem, before, 0x3000, 0x3046);
+    count(mem, before, 0x4000, 0x4010);
     count(mem, before, from, to);
     say::line();
 }
