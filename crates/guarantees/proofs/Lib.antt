@@ -12,3 +12,4 @@ pub mod Disk
 pub mod Inside
 pub mod SetUp
 pub mod Contracts
+pub mod Follow

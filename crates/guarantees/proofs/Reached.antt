@@ -58,7 +58,7 @@ made-saved s t a p chain chain₂ l h m g o =
       open-disk = rw (w 29 (omega arith), phase-saved s t a p l) o;
     }
 
-made-step : (s mem backing chain stage : List ℕ) → ((i : ℕ) → getD mem i 0 < 256) → Going s (phaseOf (rowAt s)) (length mem) (length backing) chain (length stage) → Made s chain
+pub made-step : (s mem backing chain stage : List ℕ) → ((i : ℕ) → getD mem i 0 < 256) → Going s (phaseOf (rowAt s)) (length mem) (length backing) chain (length stage) → Made s chain
     → Made (steppedOn s mem backing chain stage .state) (steppedOn s mem backing chain stage .chain)
 unfolding steppedOn stepped step stepWith configAt
 made-step s mem backing chain stage b g m =

@@ -52,7 +52,7 @@ stores-agree (stores at bs) d b₁ b₂ i l h = put-agree b₁ b₂ (d + at) bs 
 stores-agree (answers k job) d b₁ b₂ i l h = h
 stores-agree publishes d b₁ b₂ i l h = h
 
-stores-length : (e : Effect) (d : ℕ) (b : List ℕ) → length (shifted d (diskStores e) b) ≡ length b
+pub stores-length : (e : Effect) (d : ℕ) (b : List ℕ) → length (shifted d (diskStores e) b) ≡ length b
 unfolding diskStores shifted
 stores-length nothing d b = refl
 stores-length (stores at bs) d b = length-put b (d + at) bs
