@@ -20,13 +20,12 @@ use Rattle.device.specs.Turn.{cfgOf, stateOf}
 use Rattle.device.specs.declared.Config.{Config}
 use Rattle.hostiledisk.specs.Calls.{Called, hdStep, untouched, isBroken, longEnough, stepped, steppedOn, Going}
 use Rattle.hostiledisk.proofs.Laws.{level-three}
-use Rattle.guarantees.specs.History.{Call, step as stepOver, World, ran, left as leaves, run}
+use Rattle.guarantees.specs.History.{Call, step as stepOver, World, ran, left as leaves, run, steps}
 use Rattle.guarantees.specs.Good.{Made}
 use Rattle.guarantees.specs.Follow.{Matches, model}
 use Rattle.guarantees.proofs.Reached.{map-saved, made-ready, made-step}
 use Rattle.guarantees.proofs.Stays.{stays}
 use Rattle.guarantees.proofs.Walls.{stores-length}
-use Rattle.guarantees.proofs.Order.{steps}
 use Rattle.guarantees.proofs.Memory.{broken-untouched}
 use Rattle.model.specs.declared.Walk.{Walk}
 use Rattle.model.specs.declared.Desc.{Desc}
@@ -69,8 +68,19 @@ config-saved : (s : List ℕ) (t a : ℕ) (p : Phase) → configAt (saved s t a 
 unfolding configAt
 config-saved s t a p =
     let w : (i : ℕ) → i < 40 → getD (saved s t a p) i 0 ≡ getD s i 0 = λ i u. others-saved s t a p i (below u) in
-    rw (w 34 (omega arith), w 35 (omega arith), w 36 (omega arith), w 37 (omega arith), w 27 (omega arith), w 28 (omega arith), w 29 (omega arith), w 31 (omega arith),
-    w 32 (omega arith), w 33 (omega arith), w 1 (omega arith))
+    rw (
+      w 34 (omega arith),
+      w 35 (omega arith),
+      w 36 (omega arith),
+      w 37 (omega arith),
+      w 27 (omega arith),
+      w 28 (omega arith),
+      w 29 (omega arith),
+      w 31 (omega arith),
+      w 32 (omega arith),
+      w 33 (omega arith),
+      w 1 (omega arith),
+    )
 
 long-saved : (s : List ℕ) (t a : ℕ) (p : Phase) (m b c g : ℕ) → longEnough (saved s t a p) m b c g ≡ longEnough s m b c g
 unfolding longEnough
@@ -99,7 +109,7 @@ stepped-model c n w s mem backing chain stage m =
 
 lengths : (c : Cfg) (s : State) (mem backing chain stage : List ℕ)
     → (length (step c s mem backing chain stage .backing) ≡ length backing) × (length (step c s mem backing chain stage .chain) ≡ length chain)
-      × (length (step c s mem backing chain stage .stage) ≡ length stage)
+    × (length (step c s mem backing chain stage .stage) ≡ length stage)
 unfolding step stepWith
 lengths c s mem backing chain stage =
     let f = fetched c s chain mem in
@@ -118,37 +128,37 @@ matches-stepped c n w s mem backing chain stage b l m nb =
     let few = level-three (w .state) (m .enabled) .memory .few in
     let e : steppedOn (w .state) mem (w .backing) (w .chain) (w .stage) ≡ stepped (w .state) o = stepped-model c n w s mem backing chain stage m in
     let g : Going (w .state) (phaseOf (rowAt (w .state))) (length mem) (length (w .backing)) (w .chain) (length (w .stage)) =
-      record {
-        words-long = m .words-long;
-        enabled = m .enabled;
-        phase-is = refl;
-        slices-long = rw l (m .slices-long);
-        chain-ready = made-ready (w .state) (w .chain) (m .enabled) (m .made)
-      } in
+    record {
+      words-long = m .words-long;
+      enabled = m .enabled;
+      phase-is = refl;
+      slices-long = rw l (m .slices-long);
+      chain-ready = made-ready (w .state) (w .chain) (m .enabled) (m .made);
+    } in
     record {
       code-is = refl;
       mem-is = refl;
       after =
-        record {
-          words-long = rw (length-saved (w .state) t a p) (m .words-long);
-          enabled = ap (λ (x : Called). level (x .state)) (sym e) ∙ stays (w .state) mem (w .backing) (w .chain) (w .stage) b g (m .made);
-          made = rw e at (made-step (w .state) mem (w .backing) (w .chain) (w .stage) b g (m .made));
-          slices-long = long-saved (w .state) t a p n (length (o .backing)) (length (o .chain)) (length (o .stage))
-            ∙ rw (z .0, z .1, z .2, ← (m .backing-is), ← (m .chain-is), ← (m .stage-is)) (m .slices-long);
-          cfg-is = rw (config-saved (w .state) t a p, map-saved (w .state) t a p few) (m .cfg-is);
-          taken-is = taken-saved (w .state) t a p (m .words-long);
-          answered-is = answered-saved (w .state) t a p (m .words-long);
-          phase-is = phase-saved (w .state) t a p (m .words-long);
-          backing-is = refl;
-          chain-is = refl;
-          stage-is = refl
-        }
+          record {
+            words-long = rw (length-saved (w .state) t a p) (m .words-long);
+            enabled = ap (λ (x : Called). level (x .state)) (sym e) ∙ stays (w .state) mem (w .backing) (w .chain) (w .stage) b g (m .made);
+            made = rw e at (made-step (w .state) mem (w .backing) (w .chain) (w .stage) b g (m .made));
+            slices-long = long-saved (w .state) t a p n (length (o .backing)) (length (o .chain)) (length (o .stage))
+                ∙ rw (z .0, z .1, z .2, ← (m .backing-is), ← (m .chain-is), ← (m .stage-is)) (m .slices-long);
+            cfg-is = rw (config-saved (w .state) t a p, map-saved (w .state) t a p few) (m .cfg-is);
+            taken-is = taken-saved (w .state) t a p (m .words-long);
+            answered-is = answered-saved (w .state) t a p (m .words-long);
+            phase-is = phase-saved (w .state) t a p (m .words-long);
+            backing-is = refl;
+            chain-is = refl;
+            stage-is = refl;
+          };
     }
 
 -- .. of a broken queue, which stays as it is
 broken-model : (c : Cfg) (t a : ℕ) (reason head count : ℕ) (mem backing chain stage : List ℕ)
     → step c (stateOf t a (Broken reason head count)) mem backing chain stage
-      ≡ record { state = stateOf t a (Broken reason head count); mem = mem; backing = backing; chain = chain; stage = stage; code = 3 }
+    ≡ record { state = stateOf t a (Broken reason head count); mem = mem; backing = backing; chain = chain; stage = stage; code = 3 }
 unfolding step stepWith effect next chained staged memStores diskStores shifted apply counted codeOf codeAfter
 broken-model c t a reason head count mem backing chain stage = refl
 
@@ -165,8 +175,10 @@ module _ (c : Cfg) (n : ℕ) (w : World) (t a : ℕ) (mem backing chain stage : 
       → Beside c n (ran w (stepOver mem)) (step c (stateOf t a (Broken reason head count)) mem backing chain stage)
   unfolding ran
   broken-beside reason head count m =
-      rw (broken-untouched (w .state) mem (w .backing) (w .chain) (w .stage) reason head count (m .words-long) (m .enabled) (m .phase-is),
-      broken-model c t a reason head count mem backing chain stage)
+      rw (
+        broken-untouched (w .state) mem (w .backing) (w .chain) (w .stage) reason head count (m .words-long) (m .enabled) (m .phase-is),
+        broken-model c t a reason head count mem backing chain stage,
+      )
       (record { code-is = refl; mem-is = refl; after = m })
 
   pub beside : (p : Phase) → Matches c n w (stateOf t a p) backing chain stage → Beside c n (ran w (stepOver mem)) (step c (stateOf t a p) mem backing chain stage)

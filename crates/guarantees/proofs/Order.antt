@@ -23,7 +23,8 @@ use Rattle.words.proofs.Saved.{phase-saved, taken-saved, answered-saved}
 use Rattle.device.specs.Turn.{cfgOf, stateOf}
 use Rattle.hostiledisk.specs.Calls.{Called, stepped, steppedOn, Going, hdStep}
 use Rattle.hostiledisk.proofs.Laws.{fit-of}
-use Rattle.guarantees.specs.History.{Call, step as stepOver, World, ran, left as leaves, run}
+use Rattle.guarantees.specs.History.{Call, step as stepOver, World, ran, left as leaves, run, steps, answersIn}
+use Rattle.guarantees.specs.Accounts.{AfterAnswer}
 use Rattle.guarantees.proofs.Step.{by-answer}
 use Rattle.model.specs.declared.Queue.{Queue}
 use Rattle.model.specs.declared.Desc.{Desc}
@@ -68,10 +69,6 @@ not-decided k p Done = refl
 not-decided k p (Read s) = refl
 not-decided k p (Write s) = on (λ (p : Phase). publishing p ≡ false) (ltb 16 (k .r)) (λ e. refl) (λ e. refl)
 not-decided k p Identity = refl
-
-pub record AfterAnswer (p : Phase) (k : Walk) (got : ℕ) : Type 0 where
-  pub job : Job
-  pub is : p ≡ Answer k job got
 
 differ : (p : Phase) (k : Walk) (got : ℕ) {A : Type 0} → publishing p ≡ false → p ≡ Publish k got → A
 unfolding publishing
@@ -175,15 +172,6 @@ counters-step s mem backing chain stage =
     by-answer (Counted s) s mem backing chain stage
     (λ n h. let t = ne-eqb n 2 (λ z. omega arith) in record { taken-is = rw t; answered-is = rw t })
     (λ g. counted-stepped s mem backing chain stage (g .words-long))
-
--- steps over these memories, one after the other, and how many of them answered a request
-unfoldable pub steps : List (List ℕ) → List Call
-steps [] = []
-steps (m ∷ ms) = stepOver m ∷ steps ms
-
-unfoldable pub answersIn : World → List (List ℕ) → ℕ
-answersIn w [] = 0
-answersIn w (m ∷ ms) = pick (eqb (ran w (stepOver m) .code) 2) 1 0 + answersIn (leaves (ran w (stepOver m))) ms
 
 counters-call : (w : World) (m : List ℕ) → Counted (w .state) (ran w (stepOver m))
 unfolding ran

@@ -8,6 +8,9 @@ use Rattle.model.specs.Pick.{pick, both}
 use Rattle.words.specs.Layout.{stateWords, rowAt, phaseOf, level}
 use Rattle.hostiledisk.specs.Calls.{Called}
 use Rattle.guarantees.specs.History.{Call, memory, disk, enable, reset, step, World, ran, left}
+use mathlib.Core.Path.{_≡_}
+use Rattle.model.specs.declared.Walk.{Walk}
+use Rattle.model.specs.declared.Job.{Job}
 use Rattle.model.specs.declared.Phase.{Phase}
 use Rattle.model.specs.declared.Phase.the-variants.{Poll, Entry, Chain, Header, Payload, Answer, Publish, Broken}
 
@@ -80,3 +83,8 @@ takenIn w (c ∷ cs) = taken w c ++ takenIn (left (ran w c)) cs
 unfoldable pub fatesIn : World → List Call → List Fate
 fatesIn w [] = []
 fatesIn w (c ∷ cs) = fates w c ++ fatesIn (left (ran w c)) cs
+
+-- the step before was S6 of this request
+pub record AfterAnswer (p : Phase) (k : Walk) (got : ℕ) : Type 0 where
+  pub job : Job
+  pub is : p ≡ Answer k job got

@@ -209,3 +209,12 @@ DiskNow d n w (step mem) = (getD (w .state) 27 0 ≡ d) × (512 * getD (w .state
 unfoldable pub DiskIs : ℕ → ℕ → World → List Call → Type 0
 DiskIs d n w [] = Unit {0}
 DiskIs d n w (c ∷ cs) = DiskNow d n w c × DiskIs d n (left (ran w c)) cs
+
+-- steps over these memories, one after the other, and how many of them answered a request
+unfoldable pub steps : List (List ℕ) → List Call
+steps [] = []
+steps (m ∷ ms) = step m ∷ steps ms
+
+unfoldable pub answersIn : World → List (List ℕ) → ℕ
+answersIn w [] = 0
+answersIn w (m ∷ ms) = pick (eqb (ran w (step m) .code) 2) 1 0 + answersIn (left (ran w (step m))) ms
