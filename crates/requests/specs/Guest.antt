@@ -1,0 +1,52 @@
+-- A device that is stepped beside a guest: before step i the guest makes of guest memory what it likes.
+use Prim.Native.Nat.{ℕ, zero, suc, _+_, _-_, _*_, _%_}
+use mathlib.Core.List.{List, [], _∷_, _++_}
+use mathlib.Core.Path.{_≡_}
+use lib.ListN.{length}
+use Rattle.model.specs.Bytes.{part, put, word}
+use Rattle.model.specs.Ring.{oneMore}
+use Rattle.model.specs.Chain.{descAt}
+use Rattle.model.specs.Step.{Cfg, State, Span, Store, Out, apply, step}
+use Rattle.model.specs.declared.Queue.{Queue}
+use Rattle.model.specs.declared.Phase.{Phase}
+use Rattle.model.specs.declared.Phase.the-variants.{Poll, Broken}
+use Rattle.requests.specs.Serve.{Seen, upTo, past, Outcome, idle, breaks, serves}
+
+-- step number i, over the memory that the guest makes of what the step before has left; and n steps from number i on
+unfoldable pub again : Cfg → (ℕ → List ℕ → List ℕ) → ℕ → Out → Out
+again c g i o = step c (o .state) (g i (o .mem)) (o .backing) (o .chain) (o .stage)
+
+unfoldable pub after : Cfg → (ℕ → List ℕ → List ℕ) → ℕ → ℕ → Out → Out
+after c g i zero o = o
+after c g i (suc n) o = after c g (suc i) n (again c g i o)
+
+abbrev pub out : ℕ → ℕ → Phase → List ℕ → List ℕ → List ℕ → List ℕ → ℕ → Out
+out t a p mem backing chain stage code =
+    record { state = record { taken = t; answered = a; phase = p }; mem = mem; backing = backing; chain = chain; stage = stage; code = code }
+
+-- buffers fetched one in each step from number i on, each from the memory of its step
+unfoldable pub gatherFrom : (ℕ → List ℕ) → ℕ → List Span → List ℕ
+gatherFrom mems i [] = []
+gatherFrom mems i (s ∷ ss) = part (s .at) (s .len) (mems i) ++ gatherFrom mems (suc i) ss
+
+-- 01 §4: idx, entry, descriptors, header and payload as they are when they are fetched, the memories being those of steps 0, 1, 2, ..
+unfoldable pub changing : Queue → ℕ → (ℕ → List ℕ) → Seen
+changing q taken mems =
+    record {
+      idx = word 2 (q .avail + 2) (mems 0);
+      entry = word 2 (q .avail + (4 + 2 * (taken % q .size))) (mems 1);
+      desc = λ j n. descAt (q .desc + 16 * n) (mems (2 + j));
+      string = λ rs ws.
+          gatherFrom mems (2 + (length rs + length ws)) (upTo 16 rs)
+          ++ gatherFrom mems (2 + (length rs + length ws) + length (upTo 16 rs)) (past 16 rs);
+    }
+
+-- what n steps have come to agrees with an outcome. The bytes of S6 go to the memory of its step, idx to the memory that the guest makes of that.
+unfoldable pub Agrees : (ℕ → List ℕ → List ℕ) → (ℕ → List ℕ) → ℕ → ℕ → List ℕ → ℕ → Out → Outcome → Type 0
+Agrees g mems t a backing n o idle =
+    (o .state ≡ record { taken = t; answered = a; phase = Poll }) × (o .mem ≡ mems (n - 1)) × (o .backing ≡ backing)
+Agrees g mems t a backing n o (breaks reason head fetched) =
+    (o .state ≡ record { taken = t; answered = a; phase = Broken reason head fetched }) × (o .mem ≡ mems (n - 1)) × (o .backing ≡ backing)
+Agrees g mems t a backing n o (serves writes idx after head len) =
+    (o .state ≡ record { taken = oneMore t; answered = oneMore a; phase = Poll })
+    × (o .mem ≡ apply (idx ∷ []) (g (n - 1) (apply writes (mems (n - 2))))) × (o .backing ≡ after)

@@ -1,0 +1,1 @@
+// Theorems about whole requests: what the steps add up to. No code.
