@@ -1,1 +1,4 @@
 pub mod Examples
+pub mod Spans
+pub mod Leads
+pub mod Follows

@@ -1,0 +1,112 @@
+-- Steps that lead to a result, and what one step of each phase comes to.
+use Prim.Native.Nat.{ℕ, zero, suc, _+_, _-_, _*_, _%_, _≤_, _<_, min}
+use native.Mathlib.Omega.{arith}
+use native.Mathlib.Nat.{add-zero, zero-add, suc-add, add-suc}
+use mathlib.Core.Bool.{Bool, true, false}
+use mathlib.Core.Path.{_≡_, refl, sym, ap, _∙_}
+use mathlib.Core.List.{List, [], _∷_, _++_}
+use lib.ListN.{length, getD}
+use Rattle.model.specs.Pick.{pick}
+use Rattle.model.specs.Bytes.{put, part, word, bytes}
+use Rattle.model.specs.Memory.{sound}
+use Rattle.model.specs.Ring.{oneMore, polled, headed}
+use Rattle.model.specs.Chain.{descAt, tested, described, keeps}
+use Rattle.model.specs.Step.{Cfg, State, Span, Out, left, lacks, ends, paid, gathered, want, next, chained, staged, Effect, nothing, stores, effect, memStores, answerStores, diskStores, diskOf, shifted, apply, counted, codeOf, codeAfter, stepWith, step}
+use Rattle.model.specs.declared.Desc.{Desc}
+use Rattle.model.specs.declared.Walk.{Walk}
+use Rattle.model.specs.declared.Place.{Place}
+use Rattle.model.specs.declared.Job.{Job}
+use Rattle.model.specs.declared.Job.the-variants.{Done}
+use Rattle.model.specs.declared.Phase.{Phase}
+use Rattle.model.specs.declared.Phase.the-variants.{Poll, Entry, Chain, Header, Payload, Answer, Publish, Broken}
+use Rattle.model.proofs.Words.{word-part}
+use Rattle.requests.specs.Guest.{again, after, out}
+
+-- from step number i and this output of the step before, steps lead to an output and a number of which F holds
+pub data Leads (c : Cfg) (g : ℕ → List ℕ → List ℕ) (F : ℕ → Out → Type 0) : ℕ → Out → Type 0 where
+  there : (i : ℕ) (o : Out) → F i o → Leads c g F i o
+  turn : (i : ℕ) (o : Out) → Leads c g F (suc i) (again c g i o) → Leads c g F i o
+
+pub record Ended (c : Cfg) (g : ℕ → List ℕ → List ℕ) (F : ℕ → Out → Type 0) (i : ℕ) (o : Out) : Type 0 where
+  pub steps : ℕ
+  pub holds : F (i + steps) (after c g i steps o)
+
+pub ended : {c : Cfg} {g : ℕ → List ℕ → List ℕ} {F : ℕ → Out → Type 0} {i : ℕ} {o : Out} → Leads c g F i o → Ended c g F i o
+unfolding after
+ended (there i o f) = record { steps = 0; holds = rw add-zero f }
+ended (turn i o l) = let r = ended l in record { steps = suc (r .steps); holds = rw add-suc (rw suc-add at (r .holds)) }
+
+-- A guest whose memories at steps 0, 1, 2, .. are these as long as the device writes none; they keep their length, and the map is sound for it.
+pub record Beside (c : Cfg) (g : ℕ → List ℕ → List ℕ) (mems : ℕ → List ℕ) (m : ℕ) : Type 0 where
+  pub goes-on : (j : ℕ) → g (suc j) (mems j) ≡ mems (suc j)
+  pub long : (j : ℕ) → length (mems j) ≡ m
+  pub map-sound : sound m (c .map) ≡ true
+
+pub desc-part : (k : ℕ) (m : List ℕ) → descAt 0 (part k 16 m) ≡ descAt k m
+unfolding descAt
+desc-part k m =
+    let a : word 8 0 (part k 16 m) ≡ word 8 k m = rw add-zero at (word-part 8 0 k 16 m (omega arith)) in
+    rw (a, word-part 4 8 k 16 m (omega arith), word-part 2 12 k 16 m (omega arith), word-part 2 14 k 16 m (omega arith))
+
+word-two : (k : ℕ) (m : List ℕ) → word 2 0 (part k 2 m) ≡ word 2 k m
+word-two k m = rw add-zero at (word-part 2 0 k 2 m (omega arith))
+
+module _ (c : Cfg) (g : ℕ → List ℕ → List ℕ) (mems : ℕ → List ℕ) (F : ℕ → Out → Type 0) (t a : ℕ) (b : List ℕ) where
+  pub poll-turn : (m chain stage : List ℕ) (code : ℕ) → g 0 m ≡ mems 0
+      → ((code : ℕ) → Leads c g F 1 (out t a (polled (c .queue .size) t (word 2 (c .queue .avail + 2) (mems 0))) (mems 0) b chain stage code))
+      → Leads c g F 0 (out t a Poll m b chain stage code)
+  unfolding again step stepWith want next chained staged effect memStores diskStores shifted apply counted codeOf
+  poll-turn m chain stage code e f = turn 0 (out t a Poll m b chain stage code) (rw (e, word-two) (f _))
+
+  pub entry-turn : (chain stage : List ℕ) (code : ℕ) → g 1 (mems 0) ≡ mems 1
+      → ((code : ℕ) → Leads c g F 2 (out t a (headed (c .queue .size) (word 2 (c .queue .avail + (4 + 2 * (t % c .queue .size))) (mems 1))) (mems 1) b chain stage code))
+      → Leads c g F 1 (out t a Entry (mems 0) b chain stage code)
+  unfolding again step stepWith want next chained staged effect memStores diskStores shifted apply counted codeOf
+  entry-turn chain stage code e f = turn 1 (out t a Entry (mems 0) b chain stage code) (rw (e, word-two) (f _))
+
+  pub chain-turn : (i : ℕ) (k : Walk) (n : ℕ) (chain stage : List ℕ) (code : ℕ) → g (suc i) (mems i) ≡ mems (suc i) → (d : Desc)
+      → descAt (c .queue .desc + 16 * n) (mems (suc i)) ≡ d
+      → ((code : ℕ) → Leads c g F (suc (suc i))
+      (out t a (described k d (tested (c .map) (c .queue .size) k d)) (mems (suc i)) b (keeps chain k d (tested (c .map) (c .queue .size) k d)) stage code))
+      → Leads c g F (suc i) (out t a (Chain k n) (mems i) b chain stage code)
+  unfolding again step stepWith want next chained staged effect memStores diskStores shifted apply counted codeOf
+  chain-turn i k n chain stage code e d h f = turn (suc i) (out t a (Chain k n) (mems i) b chain stage code) (rw (e, desc-part, h) (f _))
+
+  pub header-turn : (i : ℕ) (k : Walk) (p : Place) (got : ℕ) (chain stage : List ℕ) (code : ℕ) → g (suc i) (mems i) ≡ mems (suc i) → (bs : List ℕ)
+      → part (left chain p .at) (lacks got (left chain p .len)) (mems (suc i)) ≡ bs
+      → ((code : ℕ) → Leads c g F (suc (suc i))
+      (out t a (gathered (c .disk) k p got (left chain p .len) (lacks got (left chain p .len)) (word 4 0 (put stage got bs)) (word 8 8 (put stage got bs)))
+      (mems (suc i)) b chain (put stage got bs) code))
+      → Leads c g F (suc i) (out t a (Header k p got) (mems i) b chain stage code)
+  unfolding again step stepWith want next chained staged effect memStores diskStores shifted apply counted codeOf
+  header-turn i k p got chain stage code e bs h f = turn (suc i) (out t a (Header k p got) (mems i) b chain stage code) (rw (e, h) (f _))
+
+  -- a buffer that is not the payload's last ..
+  pub payload-turn : (i : ℕ) (k : Walk) (p : Place) (sector got : ℕ) (chain stage : List ℕ) (code : ℕ) → g (suc i) (mems i) ≡ mems (suc i) → (bs : List ℕ)
+      → part (left chain p .at) (left chain p .len) (mems (suc i)) ≡ bs → ends k got (left chain p .len) ≡ false
+      → ((code : ℕ) → Leads c g F (suc (suc i))
+      (out t a (Payload k (record { buf = p .buf + 1; skip = 0 }) sector (got + left chain p .len)) (mems (suc i)) b chain (put stage got bs) code))
+      → Leads c g F (suc i) (out t a (Payload k p sector got) (mems i) b chain stage code)
+  unfolding again step stepWith want next chained staged effect memStores diskStores shifted apply counted codeOf paid
+  payload-turn i k p sector got chain stage code e bs h n f = turn (suc i) (out t a (Payload k p sector got) (mems i) b chain stage code) (rw (e, h, n) (f _))
+
+  -- .. and the last
+  pub payload-last : (i : ℕ) (k : Walk) (p : Place) (sector got : ℕ) (chain stage : List ℕ) (code : ℕ) → g (suc i) (mems i) ≡ mems (suc i) → (bs : List ℕ)
+      → part (left chain p .at) (left chain p .len) (mems (suc i)) ≡ bs → ends k got (left chain p .len) ≡ true
+      → ((code : ℕ) → Leads c g F (suc (suc i))
+      (out t a (Answer k Done (k .r)) (mems (suc i)) (put b (c .disk .start + 512 * sector) (part 0 got stage ++ bs)) chain stage code))
+      → Leads c g F (suc i) (out t a (Payload k p sector got) (mems i) b chain stage code)
+  unfolding again step stepWith want next chained staged effect memStores diskStores shifted apply counted codeOf paid
+  payload-last i k p sector got chain stage code e bs h n f = turn (suc i) (out t a (Payload k p sector got) (mems i) b chain stage code) (rw (e, h, n) (f _))
+
+  -- S6 and S7
+  pub answer-turns : (i : ℕ) (k : Walk) (job : Job) (got : ℕ) (chain stage : List ℕ) (code : ℕ) → g (suc i) (mems i) ≡ mems (suc i)
+      → ((code : ℕ) → F (suc (suc (suc i)))
+      (out (oneMore t) (oneMore a) Poll
+      (apply (record { to = c .queue .used + 2; bytes = bytes 2 (oneMore a) } ∷ [])
+      (g (suc (suc i)) (apply (answerStores (c .id) (c .queue) a chain (diskOf (c .disk) b) k job) (mems (suc i))))) b chain stage code))
+      → Leads c g F (suc i) (out t a (Answer k job got) (mems i) b chain stage code)
+  unfolding again step stepWith want next chained staged effect memStores diskStores shifted counted codeOf
+  answer-turns i k job got chain stage code e f =
+      let o = out t a (Answer k job got) (mems i) b chain stage code in
+      turn (suc i) o (turn (suc (suc i)) (again c g (suc i) o) (there (suc (suc (suc i))) (again c g (suc (suc i)) (again c g (suc i) o)) (rw e (f _))))
