@@ -2,3 +2,4 @@ pub mod Examples
 pub mod Spans
 pub mod Leads
 pub mod Follows
+pub mod Fetches
