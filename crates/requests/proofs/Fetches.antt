@@ -105,3 +105,37 @@ module _ (c : Cfg) (g : ℕ → List ℕ → List ℕ) (mems : ℕ → List ℕ)
           header-takes e s ss stage hs p i code (s .len) (omega arith) w
           (λ code. rw (lt-ltb (length hs + s .len) 16 (omega arith), eq-eqb (s .len) (s .len) refl, ← lh)
           (ih bs code (omega arith) (omega arith) (rw append-assoc (rw (z, o) at d))))
+
+  ends-when : (p : Place) (got : ℕ) (v : Bool) → eqb (got + left chain p .len) (k .r - 16) ≡ v → ends k got (left chain p .len) ≡ v
+  unfolding ends
+  ends-when p got v e = e
+
+  -- S5: the staged bytes and the last buffer's are the data, in chain order
+  pub paid-out : Beside c g mems m → (s : Span) (ss : List Span) (stage hs : List ℕ) (p : Place) (sector i code : ℕ) → length hs + total (s ∷ ss) ≡ k .r - 16 → k .r - 16 ≤ length stage
+      → Inside m (s ∷ ss) → Ahead chain p (s ∷ ss)
+      → ((stage : List ℕ) (code : ℕ) → Leads c g F (suc (i + length (s ∷ ss)))
+      (out t a (Answer k Done (k .r)) (mems (i + length (s ∷ ss))) (put b (c .disk .start + 512 * sector) (hs ++ gatherFrom mems (suc i) (s ∷ ss))) chain stage code))
+      → Leads c g F (suc i) (out t a (Payload k p sector (length hs)) (mems i) b chain (put stage 0 hs) code)
+  unfolding total Inside gatherFrom
+  paid-out e s [] stage hs p sector i code h r n w f =
+      let bs : List ℕ = part (s .at) (s .len) (mems (suc i)) in
+      let x = ahead-at chain p s [] w in
+      let y = ahead-len chain p s [] w in
+      let o : i + 1 ≡ suc i = omega arith in
+      let u : part 0 (length hs) (put stage 0 hs) ≡ hs = part-put stage 0 (length hs) hs refl (omega arith) in
+      payload-last c g mems F t a b i k p sector (length hs) chain (put stage 0 hs) code (e .goes-on i) bs (rw (x, y))
+      (ends-when p (length hs) true (eq-eqb (length hs + left chain p .len) (k .r - 16) (omega arith)))
+      (λ code. rw u ((rw (o, append-nil) at f) (put stage 0 hs) code))
+  paid-out e s (s₂ ∷ ss) stage hs p sector i code h r n w f =
+      let bs : List ℕ = part (s .at) (s .len) (mems (suc i)) in
+      let x = ahead-at chain p s (s₂ ∷ ss) w in
+      let y = ahead-len chain p s (s₂ ∷ ss) w in
+      let lb : length bs ≡ s .len = length-part (s .at) (s .len) (mems (suc i)) (omega (arith, e .long (suc i), n .1)) in
+      let lh : length (hs ++ bs) ≡ length hs + s .len = length-append hs bs ∙ ap (λ (x : ℕ). length hs + x) lb in
+      let o : i + suc (suc (length ss)) ≡ suc i + suc (length ss) = omega arith in
+      let one = n .2 .0 in
+      payload-turn c g mems F t a b i k p sector (length hs) chain (put stage 0 hs) code (e .goes-on i) bs (rw (x, y))
+      (ends-when p (length hs) false (ne-eqb (length hs + left chain p .len) (k .r - 16) (λ z. omega arith)))
+      (λ code. rw (y, stage-more, ← lh)
+      (paid-out e s₂ ss stage (hs ++ bs) (record { buf = p .buf + 1; skip = 0 }) sector (suc i) code (omega arith) r (n .2)
+      (ahead-next chain (p .buf + 1) (s₂ ∷ ss) (ahead-rest chain p s (s₂ ∷ ss) w)) (rw append-assoc (rw o at f))))
