@@ -86,3 +86,66 @@ ahead-next chain i (s ∷ ss) e =
     let p : getD chain (2 * i) 0 ≡ s .at = ap (λ (x : Span). x .at) a in
     let q : getD chain (2 * i + 1) 0 ≡ s .len = ap (λ (x : Span). x .len) a in
     (omega arith, omega arith, rw (add-one i) b)
+
+-- the first n bytes of some buffers, as fetched, are n bytes; the others are in memory too, and are as many as are left
+pub length-up-to : (m : ℕ) (mems : ℕ → List ℕ) → ((j : ℕ) → length (mems j) ≡ m) → (ss : List Span) (n i : ℕ) → n ≤ total ss → Inside m ss
+    → length (gatherFrom mems i (upTo n ss)) ≡ n
+unfolding total Inside upTo gatherFrom
+length-up-to m mems h [] n i l k = omega arith
+length-up-to m mems h (s ∷ ss) n i l k = go (leb n (s .len)) refl (λ u. length-up-to m mems h ss (n - s .len) (suc i) u (k .2))
+  where
+    go : (v : Bool) → leb n (s .len) ≡ v → (n - s .len ≤ total ss → length (gatherFrom mems (suc i) (upTo (n - s .len) ss)) ≡ n - s .len)
+        → length (gatherFrom mems i (pick v (record { at = s .at; len = n } ∷ []) (s ∷ upTo (n - s .len) ss))) ≡ n
+    go true v f = let u = leb-true n (s .len) v in rw append-nil (length-part (s .at) n (mems i) (omega (arith, h i)))
+    go false v f =
+        let u = leb-false n (s .len) v in
+        let p = length-part (s .at) (s .len) (mems i) (omega (arith, h i)) in
+        omega (arith, length-append (part (s .at) (s .len) (mems i)) (gatherFrom mems (suc i) (upTo (n - s .len) ss)), f (omega arith))
+
+pub inside-past : (m : ℕ) (ss : List Span) (n : ℕ) → Inside m ss → Inside m (past n ss)
+unfolding Inside past
+inside-past m [] n k = tt
+inside-past m (s ∷ ss) n k = go (leb n (s .len)) refl (eqb n (s .len)) refl (inside-past m ss (n - s .len) (k .2))
+  where
+    go : (v : Bool) → leb n (s .len) ≡ v → (u : Bool) → eqb n (s .len) ≡ u → Inside m (past (n - s .len) ss)
+        → Inside m (pick v (pick u ss (record { at = s .at + n; len = s .len - n } ∷ ss)) (past (n - s .len) ss))
+    go true v true u r = k .2
+    go true v false u r = (omega (told, k .0, k .1), omega (told, k .0, k .1), k .2)
+    go false v u w r = r
+
+pub total-past : (ss : List Span) (n : ℕ) → n ≤ total ss → total (past n ss) + n ≡ total ss
+unfolding total past
+total-past [] n h = omega arith
+total-past (s ∷ ss) n h = go (leb n (s .len)) refl (eqb n (s .len)) refl (λ l. total-past ss (n - s .len) l)
+  where
+    go : (v : Bool) → leb n (s .len) ≡ v → (u : Bool) → eqb n (s .len) ≡ u → (n - s .len ≤ total ss → total (past (n - s .len) ss) + (n - s .len) ≡ total ss)
+        → total (pick v (pick u ss (record { at = s .at + n; len = s .len - n } ∷ ss)) (past (n - s .len) ss)) + n ≡ s .len + total ss
+    go true v true u f = omega told
+    go true v false u f = omega told
+    go false v u w f = let l = leb-false n (s .len) v in omega (arith, f (omega arith))
+
+still-gather : (m : List ℕ) (ss : List Span) (i : ℕ) → gatherFrom (λ x. m) i ss ≡ gather m ss
+unfolding gather gatherFrom
+still-gather m [] i = refl
+still-gather m (s ∷ ss) i = rw (still-gather m ss (suc i))
+
+-- in a memory that is held still, the first n bytes and the others are all of the string
+pub gather-cut : (m : List ℕ) (ss : List Span) (n i j : ℕ) → gatherFrom (λ x. m) i (upTo n ss) ++ gatherFrom (λ x. m) j (past n ss) ≡ gather m ss
+unfolding gather gatherFrom upTo past
+gather-cut m [] n i j = refl
+gather-cut m (s ∷ ss) n i j = go (leb n (s .len)) refl (eqb n (s .len)) refl (gather-cut m ss (n - s .len) (suc i) j)
+  where
+    go : (v : Bool) → leb n (s .len) ≡ v → (u : Bool) → eqb n (s .len) ≡ u
+        → gatherFrom (λ x. m) (suc i) (upTo (n - s .len) ss) ++ gatherFrom (λ x. m) j (past (n - s .len) ss) ≡ gather m ss
+        → gatherFrom (λ x. m) i (pick v (record { at = s .at; len = n } ∷ []) (s ∷ upTo (n - s .len) ss))
+        ++ gatherFrom (λ x. m) j (pick v (pick u ss (record { at = s .at + n; len = s .len - n } ∷ ss)) (past (n - s .len) ss))
+        ≡ part (s .at) (s .len) m ++ gather m ss
+    go true v true u r =
+        let e : n ≡ s .len = eqb-true n (s .len) u in
+        rw (append-nil, e, still-gather m ss j)
+    go true v false u r =
+        let l = leb-true n (s .len) v in
+        let e : n + (s .len - n) ≡ s .len = omega arith in
+        let p : part (s .at) n m ++ part (s .at + n) (s .len - n) m ≡ part (s .at) (s .len) m = rw e at (part-add (s .at) n (s .len - n) m) in
+        rw (append-nil, still-gather m ss (suc j), ← append-assoc, p)
+    go false v u w r = rw (append-assoc, r)

@@ -1,9 +1,8 @@
 -- A device that is stepped beside a guest: before step i the guest makes of guest memory what it likes.
 use Prim.Native.Nat.{ℕ, zero, suc, _+_, _-_, _*_, _%_}
 use mathlib.Core.List.{List, [], _∷_, _++_}
-use mathlib.Core.Path.{_≡_}
 use lib.ListN.{length}
-use Rattle.model.specs.Bytes.{part, put, word}
+use Rattle.model.specs.Bytes.{part, word}
 use Rattle.model.specs.Ring.{oneMore}
 use Rattle.model.specs.Chain.{descAt}
 use Rattle.model.specs.Step.{Cfg, State, Span, Store, Out, apply, step}
@@ -41,12 +40,14 @@ changing q taken mems =
           ++ gatherFrom mems (2 + (length rs + length ws) + length (upTo 16 rs)) (past 16 rs);
     }
 
--- what n steps have come to agrees with an outcome. The bytes of S6 go to the memory of its step, idx to the memory that the guest makes of that.
-unfoldable pub Agrees : (ℕ → List ℕ → List ℕ) → (ℕ → List ℕ) → ℕ → ℕ → List ℕ → ℕ → Out → Outcome → Type 0
-Agrees g mems t a backing n o idle =
-    (o .state ≡ record { taken = t; answered = a; phase = Poll }) × (o .mem ≡ mems (n - 1)) × (o .backing ≡ backing)
-Agrees g mems t a backing n o (breaks reason head fetched) =
-    (o .state ≡ record { taken = t; answered = a; phase = Broken reason head fetched }) × (o .mem ≡ mems (n - 1)) × (o .backing ≡ backing)
-Agrees g mems t a backing n o (serves writes idx after head len) =
-    (o .state ≡ record { taken = oneMore t; answered = oneMore a; phase = Poll })
-    × (o .mem ≡ apply (idx ∷ []) (g (n - 1) (apply writes (mems (n - 2))))) × (o .backing ≡ after)
+-- The memory that n steps leave. The bytes of S6 go to the memory of its step, idx to the memory that the guest makes of that.
+unfoldable pub memoryBeside : (ℕ → List ℕ → List ℕ) → (ℕ → List ℕ) → ℕ → Outcome → List ℕ
+memoryBeside g mems n idle = mems (n - 1)
+memoryBeside g mems n (breaks reason head fetched) = mems (n - 1)
+memoryBeside g mems n (serves writes idx after head len) = apply (idx ∷ []) (g (n - 1) (apply writes (mems (n - 2))))
+
+-- the device is at S1 again, both counters one more if a request was served; or it is broken
+unfoldable pub stateAfter : Outcome → ℕ → ℕ → State
+stateAfter idle t a = record { taken = t; answered = a; phase = Poll }
+stateAfter (breaks reason head fetched) t a = record { taken = t; answered = a; phase = Broken reason head fetched }
+stateAfter (serves writes idx after head len) t a = record { taken = oneMore t; answered = oneMore a; phase = Poll }
