@@ -3,3 +3,4 @@ pub mod Spans
 pub mod Leads
 pub mod Follows
 pub mod Fetches
+pub mod Serves
