@@ -1,6 +1,6 @@
 -- The worked examples of 01 §6 and 03 §6: what `serve` says of them, by computing.
 use Prim.Native.Nat.{ℕ, _+_}
-use mathlib.Core.List.{List, [], _∷_, _++_}
+use mathlib.Core.List.{List, [], _∷_}
 use mathlib.Core.Path.{_≡_, refl}
 use lib.ListN.{getD, replicate}
 use Rattle.model.specs.Bytes.{put, part, word, bytes}

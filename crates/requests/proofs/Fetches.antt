@@ -1,25 +1,22 @@
 -- S4 and S5: whatever the cuts, the 16 staged bytes are the first ones of the readable string, and the rest goes to the disk.
-use Prim.Native.Nat.{ℕ, zero, suc, _+_, _-_, _*_, _≤_, _<_, min}
+use Prim.Native.Nat.{ℕ, suc, _+_, _-_, _*_, _≤_, _<_, min}
 use native.Mathlib.Omega.{arith}
-use native.Mathlib.Nat.{add-zero, zero-add, suc-add, add-suc, add-assoc}
-use native.Mathlib.Numerals.{add-one}
+use native.Mathlib.Nat.{zero-add}
 use mathlib.Core.Bool.{Bool, true, false}
-use mathlib.Core.Path.{_≡_, refl, sym, ap, _∙_}
+use mathlib.Core.Path.{_≡_, refl, ap, _∙_}
 use mathlib.Core.List.{List, [], _∷_, _++_, append-assoc, append-nil}
-use lib.Dec.{leb, ltb, eqb}
-use lib.ListN.{length, getD, length-append}
-use borrow.Author.Tests.{leb-true, leb-false, eqb-true, eqb-false, lt-ltb, le-ltb, eq-eqb, ne-eqb}
+use lib.Dec.{leb, eqb}
+use lib.ListN.{length, length-append}
+use borrow.Author.Tests.{leb-true, leb-false, lt-ltb, le-ltb, eq-eqb, ne-eqb}
 use Rattle.model.specs.Pick.{pick}
 use Rattle.model.specs.Bytes.{put, part, word}
 use Rattle.model.specs.Request.{verdict, decided}
-use Rattle.model.specs.Step.{Cfg, Span, Out, left, lacks, onward, ends, gathered, spans}
+use Rattle.model.specs.Step.{Cfg, Span, Out, left, onward, ends, gathered, spans}
 use Rattle.model.specs.declared.Walk.{Walk}
 use Rattle.model.specs.declared.Place.{Place}
-use Rattle.model.specs.declared.Job.{Job}
 use Rattle.model.specs.declared.Job.the-variants.{Done}
 use Rattle.model.specs.declared.Phase.the-variants.{Header, Payload, Answer}
-use Rattle.model.proofs.Tests.{told}
-use Rattle.model.proofs.Lists.{length-put, put-put, part-put, length-part}
+use Rattle.model.proofs.Lists.{put-put, part-put, length-part}
 use Rattle.requests.specs.Serve.{total, upTo, past}
 use Rattle.requests.specs.Guest.{out, gatherFrom}
 use Rattle.requests.proofs.Spans.{Inside, Ahead, ahead-next}

@@ -1,16 +1,13 @@
 -- S3 again and again follows the chain as `follow` does, and the private chain then holds its buffers.
-use Prim.Native.Nat.{ℕ, zero, suc, _+_, _-_, _*_, _≤_, _<_}
+use Prim.Native.Nat.{ℕ, zero, suc, _+_, _*_, _≤_, _<_}
 use native.Mathlib.Omega.{arith}
-use native.Mathlib.Nat.{add-zero, zero-add, suc-add, add-suc}
-use native.Mathlib.Numerals.{add-one}
 use mathlib.Core.Bool.{Bool, true, false}
-use mathlib.Core.Path.{_≡_, refl, sym, ap, _∙_}
+use mathlib.Core.Path.{_≡_, refl, _∙_}
 use mathlib.Core.List.{List, [], _∷_, _++_}
 use lib.Dec.{leb, ltb, eqb}
-use lib.ListN.{length, getD, length-append}
+use lib.ListN.{length, length-append}
 use borrow.Author.Tests.{leb-false, ltb-false, eqb-false}
-use Rattle.model.specs.Pick.{pick, both}
-use Rattle.model.specs.Bytes.{put}
+use Rattle.model.specs.Pick.{both}
 use Rattle.model.specs.Memory.{Region, locate, sound}
 use Rattle.model.specs.Chain.{descAt, testedBy, tested, tally, held, complete, described, keeps}
 use Rattle.model.specs.Step.{Cfg, Span, Out, spans}
@@ -19,14 +16,11 @@ use Rattle.model.specs.declared.Found.the-variants.{At, Nothing}
 use Rattle.model.specs.declared.Desc.{Desc}
 use Rattle.model.specs.declared.Tested.{Tested}
 use Rattle.model.specs.declared.Tested.the-variants.{Bad, Next, Last}
-use Rattle.model.specs.declared.Walk.{Walk}
-use Rattle.model.specs.declared.Phase.{Phase}
 use Rattle.model.specs.declared.Phase.the-variants.{Chain, Broken}
-use Rattle.model.proofs.Tests.{told}
 use Rattle.model.proofs.Lists.{length-put}
 use Rattle.model.proofs.Memory.{locate-slice}
-use Rattle.requests.specs.Serve.{Seen, total, walk, Followed, broke, whole, linked, follow}
-use Rattle.requests.specs.Guest.{again, out, changing}
+use Rattle.requests.specs.Serve.{total, walk, Followed, broke, whole, linked, follow}
+use Rattle.requests.specs.Guest.{out, changing}
 use Rattle.requests.proofs.Spans.{spans-keep, spans-push, total-append, Inside, inside-push}
 use Rattle.requests.proofs.Leads.{Leads, Beside, chain-turn}
 

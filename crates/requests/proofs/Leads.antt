@@ -1,24 +1,22 @@
 -- Steps that lead to a result, and what one step of each phase comes to.
-use Prim.Native.Nat.{ℕ, zero, suc, _+_, _-_, _*_, _%_, _≤_, _<_, min}
+use Prim.Native.Nat.{ℕ, suc, _+_, _*_, _%_}
 use native.Mathlib.Omega.{arith}
-use native.Mathlib.Nat.{add-zero, zero-add, suc-add, add-suc}
-use mathlib.Core.Bool.{Bool, true, false}
-use mathlib.Core.Path.{_≡_, refl, sym, ap, _∙_}
+use native.Mathlib.Nat.{add-zero, suc-add, add-suc}
+use mathlib.Core.Bool.{true, false}
+use mathlib.Core.Path.{_≡_}
 use mathlib.Core.List.{List, [], _∷_, _++_}
-use lib.ListN.{length, getD}
-use Rattle.model.specs.Pick.{pick}
+use lib.ListN.{length}
 use Rattle.model.specs.Bytes.{put, part, word, bytes}
 use Rattle.model.specs.Memory.{sound}
 use Rattle.model.specs.Ring.{oneMore, polled, headed}
 use Rattle.model.specs.Chain.{descAt, tested, described, keeps}
-use Rattle.model.specs.Step.{Cfg, State, Span, Out, left, lacks, ends, paid, gathered, want, next, chained, staged, Effect, nothing, stores, effect, memStores, answerStores, diskStores, diskOf, shifted, apply, counted, codeOf, codeAfter, stepWith, step}
+use Rattle.model.specs.Step.{Cfg, Out, left, lacks, ends, paid, gathered, want, next, chained, staged, effect, memStores, answerStores, diskStores, diskOf, shifted, apply, counted, codeOf, stepWith, step}
 use Rattle.model.specs.declared.Desc.{Desc}
 use Rattle.model.specs.declared.Walk.{Walk}
 use Rattle.model.specs.declared.Place.{Place}
 use Rattle.model.specs.declared.Job.{Job}
 use Rattle.model.specs.declared.Job.the-variants.{Done}
-use Rattle.model.specs.declared.Phase.{Phase}
-use Rattle.model.specs.declared.Phase.the-variants.{Poll, Entry, Chain, Header, Payload, Answer, Publish, Broken}
+use Rattle.model.specs.declared.Phase.the-variants.{Poll, Entry, Chain, Header, Payload, Answer}
 use Rattle.model.proofs.Words.{word-part}
 use Rattle.requests.specs.Guest.{again, after, out}
 

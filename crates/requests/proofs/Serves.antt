@@ -1,37 +1,36 @@
 -- Whole requests: the steps from S1 on come to exactly what `serve` says of what they fetched, after exactly `calls` steps.
-use Prim.Native.Nat.{ℕ, zero, suc, _+_, _-_, _*_, _%_, _≤_, _<_}
+use Prim.Native.Nat.{ℕ, zero, suc, _+_, _-_, _*_, _≤_}
 use native.Mathlib.Omega.{arith}
-use native.Mathlib.Nat.{add-zero, zero-add, suc-add, add-suc}
+use native.Mathlib.Nat.{add-zero, zero-add, suc-add}
 use mathlib.Core.Bool.{Bool, true, false}
 use mathlib.Core.Path.{_≡_, refl, sym, ap, _∙_, fun-ext}
-use mathlib.Core.List.{List, [], _∷_, _++_, append-nil}
+use mathlib.Core.List.{List, [], _∷_, _++_}
 use lib.Dec.{leb, ltb, eqb}
-use lib.ListN.{length, getD, drop, length-append, List·getD-append}
-use borrow.Author.Tests.{leb-true, leb-false, ltb-true, ltb-false, lt-leb, le-leb, le-ltb, lt-ltb, ne-eqb}
+use lib.ListN.{length, getD, drop, List·getD-append}
+use borrow.Author.Tests.{ltb-false, lt-leb, le-leb, le-ltb, lt-ltb, ne-eqb}
 use Rattle.model.specs.Pick.{pick, both}
-use Rattle.model.specs.Bytes.{put, part, word, bytes}
+use Rattle.model.specs.Bytes.{put, word, bytes}
 use Rattle.model.specs.Memory.{sound}
-use Rattle.model.specs.Ring.{pending, oneMore, polled, headed as enters, fresh}
+use Rattle.model.specs.Ring.{pending, polled, headed as enters, fresh}
 use Rattle.model.specs.Chain.{complete}
 use Rattle.model.specs.Request.{fits, inOk, outOk, exactly, verdict, status, reported, decided}
-use Rattle.model.specs.Step.{Cfg, State, Span, Out, Store, spans, scatter, handed, usedAt, diskOf, apply, answerStores}
+use Rattle.model.specs.Step.{Cfg, Span, Out, spans, scatter, handed, usedAt, diskOf, answerStores}
 use Rattle.model.specs.declared.Disk.{Disk}
 use Rattle.model.specs.declared.Queue.{Queue}
-use Rattle.model.specs.declared.Walk.{Walk}
 use Rattle.model.specs.declared.Place.{Place}
 use Rattle.model.specs.declared.Job.{Job}
 use Rattle.model.specs.declared.Job.the-variants.{Failed, Unsupported, Done, Read, Write, Identity}
-use Rattle.model.specs.declared.Phase.the-variants.{Poll, Entry, Chain, Header, Payload, Answer, Broken}
-use Rattle.model.proofs.Tests.{told, both-split}
+use Rattle.model.specs.declared.Phase.the-variants.{Poll, Entry, Chain, Header, Answer, Broken}
+use Rattle.model.proofs.Tests.{both-split}
 use Rattle.model.proofs.Lists.{length-put, put-nil, put-in}
 use Rattle.model.proofs.Words.{word-cong}
 use Rattle.model.proofs.Step.{apply-append}
 use Rattle.model.proofs.Sane.{fits-ok}
 use lib.Seq.{drop-at}
 use Rattle.requests.specs.Serve.{Seen, gather, still, total, walk, Followed, broke, whole, follow, lastByte, jobOf, stored, Outcome, idle, breaks, serves, answer, carried, serve, memoryAfter, backingAfter, upTo, past, dataFetches, fetches, chainCalls, calls}
-use Rattle.requests.specs.Guest.{again, after, out, gatherFrom, changing, memoryBeside, stateAfter}
+use Rattle.requests.specs.Guest.{after, out, gatherFrom, changing, memories, memoryBeside, stateAfter, Agrees}
 use Rattle.requests.proofs.Spans.{last-is, Inside, Ahead, ahead-next, length-up-to, inside-past, total-past, gather-cut}
-use Rattle.requests.proofs.Leads.{Leads, there, turn, Ended, ended, Beside, poll-turn, entry-turn, answer-turns}
+use Rattle.requests.proofs.Leads.{Leads, there, Ended, ended, Beside, poll-turn, entry-turn, answer-turns}
 use Rattle.requests.proofs.Follows.{Held, Goes, Takes, takes-chain}
 use Rattle.requests.proofs.Fetches.{Decides, headed, paid-out}
 
@@ -132,8 +131,8 @@ module _ (c : Cfg) (g : ℕ → List ℕ → List ℕ) (mems : ℕ → List ℕ)
       (paid-out c g mems m (Result calls (answer c a b head rs (s ∷ ws) (hs ++ gatherFrom mems (suc i) (x ∷ xs)) (Write z))) t a b chain (walk head rs (s ∷ ws)) e x xs stage [] p z i code
       (omega arith) r n w
       (λ stage code.
-          finish e (i + suc (length xs)) head rs s ws (hs ++ gatherFrom mems (suc i) (x ∷ xs)) (Write z) Done (total rs)
-          (put b (c .disk .start + 512 * z) (gatherFrom mems (suc i) (x ∷ xs))) chain stage code calls hd refl refl (rw d refl) (omega arith))))
+      finish e (i + suc (length xs)) head rs s ws (hs ++ gatherFrom mems (suc i) (x ∷ xs)) (Write z) Done (total rs)
+      (put b (c .disk .start + 512 * z) (gatherFrom mems (suc i) (x ∷ xs))) chain stage code calls hd refl refl (rw d refl) (omega arith))))
 
   -- from the decision on
   carry : Beside c g mems m → (i head : ℕ) (rs : List Span) (s : Span) (ws : List Span) (hs : List ℕ) (job : Job) (p : Place) (chain stage : List ℕ) (code calls : ℕ)
@@ -168,6 +167,7 @@ module _ (c : Cfg) (g : ℕ → List ℕ → List ℕ) (mems : ℕ → List ℕ)
     where
       job : Job
       job = jobOf (c .disk) (hs ++ ds) (total rs) (total (s ∷ ws))
+
       go : (v : Bool) → ltb (total rs) 16 ≡ v
           → Leads c g (Result (suc i + fetches rs job + 2) (answer c a b head rs (s ∷ ws) (hs ++ ds) job)) (suc i)
           (out t a (pick v (Answer (walk head rs (s ∷ ws)) Failed 0) (Header (walk head rs (s ∷ ws)) (record { buf = 0; skip = 0 }) 0)) (mems i) b chain stage code)
@@ -184,10 +184,10 @@ module _ (c : Cfg) (g : ℕ → List ℕ → List ℕ) (mems : ℕ → List ℕ)
           (headed c g mems m (Result (suc i + (length (upTo 16 rs) + dataFetches rs job) + 2) (answer c a b head rs (s ∷ ws) (hs ++ ds) job)) t a b chain (walk head rs (s ∷ ws)) e rs stage []
           (record { buf = 0; skip = 0 }) i code (omega arith) long (hd .reads-in) (ahead-next chain 0 rs (hd .reads-are))
           (λ p code w.
-              rw (eh, x, y)
-              (rw ed at
-              (carry e (i + length (upTo 16 rs)) head rs s ws hs job p chain (put stage 0 hs) code (suc i + (length (upTo 16 rs) + dataFetches rs job) + 2) hd w long lh
-              (λ z q. omega (arith, write-short (c .disk) (word 4 0 (hs ++ ds)) (word 8 8 (hs ++ ds)) (total rs) (total (s ∷ ws)) z q, length-put stage 0 hs)) (omega arith))))))
+          rw (eh, x, y)
+          (rw ed at
+          (carry e (i + length (upTo 16 rs)) head rs s ws hs job p chain (put stage 0 hs) code (suc i + (length (upTo 16 rs) + dataFetches rs job) + 2) hd w long lh
+          (λ z q. omega (arith, write-short (c .disk) (word 4 0 (hs ++ ds)) (word 8 8 (hs ++ ds)) (total rs) (total (s ∷ ws)) z q, length-put stage 0 hs)) (omega arith))))))
 
   served : Beside c g mems m → (i head : ℕ) (rs : List Span) (s : Span) (ws : List Span) (chain stage : List ℕ) (code : ℕ) → 1048576 ≤ length stage
       → suc i ≡ 2 + (length rs + suc (length ws)) → Held m (c .queue .size) chain rs (s ∷ ws)
@@ -205,8 +205,8 @@ module _ (c : Cfg) (g : ℕ → List ℕ → List ℕ) (mems : ℕ → List ℕ)
   goes e head stage l (broke reason n) = λ i chain code h. breaks-here i reason head n chain stage code (2 + n) h
   goes e head stage l (whole rs []) =
       λ i chain code h hd.
-          let u : leb (length rs + 0) (length rs) ≡ true = le-leb (length rs + 0) (length rs) (omega arith) in
-          rw (u, add-zero) (breaks-here i 8 head (length rs) chain stage code (2 + length rs) (omega arith))
+      let u : leb (length rs + 0) (length rs) ≡ true = le-leb (length rs + 0) (length rs) (omega arith) in
+      rw (u, add-zero) (breaks-here i 8 head (length rs) chain stage code (2 + length rs) (omega arith))
   goes e head stage l (whole rs (s ∷ ws)) = λ i chain code h hd. served e i head rs s ws chain stage code l h hd
 
   -- every guest: from S1 on, whatever is in private memory
@@ -219,8 +219,10 @@ module _ (c : Cfg) (g : ℕ → List ℕ → List ℕ) (mems : ℕ → List ℕ)
     where
       v : Seen
       v = changing (c .queue) t mems
+
       x : Followed
       x = follow c v (v .entry) (c .queue .size + 1) (v .entry) [] []
+
       second : (q : Bool) (code : ℕ)
           → Leads c g (Result (pick q 2 (chainCalls c v x)) (pick q (breaks 2 0 0) (carried c v a b (v .entry) x))) 2
           (out t a (pick q (Broken 2 0 0) (Chain (fresh (v .entry)) (v .entry))) (mems 1) b chain stage code)
@@ -228,6 +230,7 @@ module _ (c : Cfg) (g : ℕ → List ℕ → List ℕ) (mems : ℕ → List ℕ)
       second false code =
           takes-chain c g mems m (Result (chainCalls c v x) (carried c v a b (v .entry) x)) t a b stage (v .entry) e (c .queue .size + 1) (v .entry) [] [] 1 chain code refl (omega arith) (omega arith)
           (record { reads-are = refl; writes-are = refl; reads-in = tt; writes-in = tt; room = r }) (goes e (v .entry) stage l x)
+
       first : (p q : Bool) (code : ℕ)
           → Leads c g
           (Result (pick p 1 (pick q 1 (pick (leb (c .queue .size) (v .entry)) 2 (chainCalls c v x))))
@@ -238,3 +241,62 @@ module _ (c : Cfg) (g : ℕ → List ℕ → List ℕ) (mems : ℕ → List ℕ)
       first false false code =
           entry-turn c g mems (Result (pick (leb (c .queue .size) (v .entry)) 2 (chainCalls c v x)) (pick (leb (c .queue .size) (v .entry)) (breaks 2 0 0) (carried c v a b (v .entry) x))) t a b
           chain stage code (e .goes-on 0) (λ code. second (leb (c .queue .size) (v .entry)) code)
+
+-- the number of steps is the stated one
+result : (c : Cfg) (g : ℕ → List ℕ → List ℕ) (mems : ℕ → List ℕ) (m t a : ℕ) (b : List ℕ) (calls : ℕ) (w : Outcome) (o : Out) → Ended c g (Result c g mems m t a b calls w) 0 o
+    → Agrees w t a (memoryBeside g mems calls w) b (after c g 0 calls o)
+unfolding Result
+result c g mems m t a b calls w o r =
+    let k = rw zero-add at (r .holds) in
+    let n : r .steps ≡ calls = k .0 in
+    record { state-is = rw n at (k .1); mem-is = rw n at (k .2); backing-is = rw n at (k .3) }
+
+length-memories : (g : ℕ → List ℕ → List ℕ) (mem : List ℕ) → ((i : ℕ) (x : List ℕ) → length (g i x) ≡ length x) → (i : ℕ) → length (memories g mem i) ≡ length mem
+unfolding memories
+length-memories g mem h zero = h 0 mem
+length-memories g mem h (suc i) = h (suc i) (memories g mem i) ∙ length-memories g mem h i
+
+-- 6. Whatever a guest makes of its memory before each step, if only the length stays: the steps come to `serve` of idx, entry, descriptors, header and
+-- payload as each was when it was fetched, after exactly `calls` steps. The bytes of S6 go over the memory of that step, idx over that of the next.
+pub serves-as-fetched : (c : Cfg) (g : ℕ → List ℕ → List ℕ) → ((i : ℕ) (x : List ℕ) → length (g i x) ≡ length x) → (t a : ℕ) (mem backing chain stage : List ℕ) (code : ℕ)
+    → sound (length mem) (c .map) ≡ true → 2 * c .queue .size ≤ length chain → 1048576 ≤ length stage
+    → let v = changing (c .queue) t (memories g mem) in
+    let w = serve c v t a backing in
+    let n = calls c v t in
+    Agrees w t a (memoryBeside g (memories g mem) n w) backing (after c g 0 n (out t a Poll mem backing chain stage code))
+unfolding memories
+serves-as-fetched c g h t a mem backing chain stage code s r l =
+    let mems = memories g mem in
+    let e : Beside c g mems (length mem) = record { goes-on = λ j. refl; long = length-memories g mem h; map-sound = s } in
+    let v = changing (c .queue) t mems in
+    result c g mems (length mem) t a backing (calls c v t) (serve c v t a backing) (out t a Poll mem backing chain stage code)
+    (ended (leads c g mems (length mem) t a backing e mem chain stage code refl r l))
+
+-- what is fetched of a memory that is held still
+still-seen : (q : Queue) (t : ℕ) (m : List ℕ) → changing q t (λ i. m) ≡ still q t m
+unfolding changing still
+still-seen q t m =
+    let e : _≡_ {A = List Span → List Span → List ℕ} (λ rs ws. gatherFrom (λ i. m) (2 + (length rs + length ws)) (upTo 16 rs) ++ gatherFrom (λ i. m) (2 + (length rs + length ws) + length (upTo 16 rs)) (past 16 rs))
+    (λ rs ws. gather m rs) =
+    fun-ext (λ rs. fun-ext (λ ws. gather-cut m rs 16 (2 + (length rs + length ws)) (2 + (length rs + length ws) + length (upTo 16 rs)))) in
+    rw e
+
+still-memory : (m : List ℕ) (n : ℕ) (w : Outcome) → memoryBeside (λ i x. x) (λ i. m) n w ≡ memoryAfter w m
+unfolding memoryBeside memoryAfter
+still-memory m n idle = refl
+still-memory m n (breaks reason head fetched) = refl
+still-memory m n (serves writes idx after head len) = sym (apply-append writes (idx ∷ []) m)
+
+-- 5. Memory held still, that is, what one step leaves is what the next one sees: the steps come to `serve` of that memory.
+pub serves-still : (c : Cfg) (t a : ℕ) (mem backing chain stage : List ℕ) (code : ℕ) → sound (length mem) (c .map) ≡ true → 2 * c .queue .size ≤ length chain → 1048576 ≤ length stage
+    → let v = still (c .queue) t mem in
+    let w = serve c v t a backing in
+    Agrees w t a (memoryAfter w mem) backing (after c (λ i x. x) 0 (calls c v t) (out t a Poll mem backing chain stage code))
+serves-still c t a mem backing chain stage code s r l =
+    let g : ℕ → List ℕ → List ℕ = λ i x. x in
+    let mems : ℕ → List ℕ = λ i. mem in
+    let e : Beside c g mems (length mem) = record { goes-on = λ j. refl; long = λ j. refl; map-sound = s } in
+    let v = changing (c .queue) t mems in
+    rw (still-seen (c .queue) t mem, still-memory mem (calls c (still (c .queue) t mem) t) (serve c (still (c .queue) t mem) t a backing)) at
+    (result c g mems (length mem) t a backing (calls c v t) (serve c v t a backing) (out t a Poll mem backing chain stage code)
+    (ended (leads c g mems (length mem) t a backing e mem chain stage code refl r l)))

@@ -1,20 +1,20 @@
 -- The laws of buffers: the private chain's words as a list of buffers, the last byte, the strings and their cuts.
-use Prim.Native.Nat.{ℕ, zero, suc, _+_, _-_, _*_, _≤_, _<_, min}
+use Prim.Native.Nat.{ℕ, zero, suc, _+_, _-_, _*_, _≤_, _<_}
 use native.Mathlib.Omega.{arith}
-use native.Mathlib.Nat.{add-zero, zero-add, suc-add, add-suc, add-assoc}
+use native.Mathlib.Nat.{add-zero}
 use native.Mathlib.Numerals.{add-one}
 use mathlib.Core.Bool.{Bool, true, false}
-use mathlib.Core.Path.{_≡_, refl, sym, ap, _∙_}
+use mathlib.Core.Path.{_≡_, refl, ap, _∙_}
 use mathlib.Core.List.{List, [], _∷_, _++_, append-assoc, append-nil}
 use lib.Dec.{leb, eqb}
-use lib.ListN.{length, getD, take, drop, length-append}
-use borrow.Author.Tests.{leb-true, leb-false, eqb-true, eqb-false}
+use lib.ListN.{length, getD, length-append}
+use borrow.Author.Tests.{leb-true, leb-false, eqb-true}
 use Rattle.model.specs.Pick.{pick}
 use Rattle.model.specs.Bytes.{put, part}
 use Rattle.model.specs.Step.{Span, buffer, left, spans}
 use Rattle.model.specs.declared.Place.{Place}
 use Rattle.model.proofs.Tests.{told}
-use Rattle.model.proofs.Lists.{length-put, put-below, put-in, part-add, part-zero, length-part}
+use Rattle.model.proofs.Lists.{put-below, put-in, part-add, length-part}
 use Rattle.requests.specs.Serve.{gather, total, lastByte, upTo, past}
 use Rattle.requests.specs.Guest.{gatherFrom}
 

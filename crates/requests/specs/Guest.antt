@@ -1,15 +1,16 @@
 -- A device that is stepped beside a guest: before step i the guest makes of guest memory what it likes.
 use Prim.Native.Nat.{ℕ, zero, suc, _+_, _-_, _*_, _%_}
 use mathlib.Core.List.{List, [], _∷_, _++_}
+use mathlib.Core.Path.{_≡_}
 use lib.ListN.{length}
 use Rattle.model.specs.Bytes.{part, word}
 use Rattle.model.specs.Ring.{oneMore}
 use Rattle.model.specs.Chain.{descAt}
-use Rattle.model.specs.Step.{Cfg, State, Span, Store, Out, apply, step}
+use Rattle.model.specs.Step.{Cfg, State, Span, Out, apply, step}
 use Rattle.model.specs.declared.Queue.{Queue}
 use Rattle.model.specs.declared.Phase.{Phase}
 use Rattle.model.specs.declared.Phase.the-variants.{Poll, Broken}
-use Rattle.requests.specs.Serve.{Seen, upTo, past, Outcome, idle, breaks, serves}
+use Rattle.requests.specs.Serve.{Seen, upTo, past, Outcome, idle, breaks, serves, backingAfter}
 
 -- step number i, over the memory that the guest makes of what the step before has left; and n steps from number i on
 unfoldable pub again : Cfg → (ℕ → List ℕ → List ℕ) → ℕ → Out → Out
@@ -40,6 +41,11 @@ changing q taken mems =
           ++ gatherFrom mems (2 + (length rs + length ws) + length (upTo 16 rs)) (past 16 rs);
     }
 
+-- guest memory at steps 0, 1, 2, .., as long as the device writes none of it
+unfoldable pub memories : (ℕ → List ℕ → List ℕ) → List ℕ → ℕ → List ℕ
+memories g mem zero = g 0 mem
+memories g mem (suc i) = g (suc i) (memories g mem i)
+
 -- The memory that n steps leave. The bytes of S6 go to the memory of its step, idx to the memory that the guest makes of that.
 unfoldable pub memoryBeside : (ℕ → List ℕ → List ℕ) → (ℕ → List ℕ) → ℕ → Outcome → List ℕ
 memoryBeside g mems n idle = mems (n - 1)
@@ -51,3 +57,9 @@ unfoldable pub stateAfter : Outcome → ℕ → ℕ → State
 stateAfter idle t a = record { taken = t; answered = a; phase = Poll }
 stateAfter (breaks reason head fetched) t a = record { taken = t; answered = a; phase = Broken reason head fetched }
 stateAfter (serves writes idx after head len) t a = record { taken = oneMore t; answered = oneMore a; phase = Poll }
+
+-- an output of the device is what an outcome says: the state, guest memory and the backing slice
+pub record Agrees (w : Outcome) (t a : ℕ) (mem backing : List ℕ) (o : Out) : Type 0 where
+  pub state-is : o .state ≡ stateAfter w t a
+  pub mem-is : o .mem ≡ mem
+  pub backing-is : o .backing ≡ backingAfter w backing

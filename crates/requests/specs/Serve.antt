@@ -1,6 +1,5 @@
 -- One request, from the available ring to the used ring, as documents 01 §3 and 03 say it: no steps, no private memory.
 use Prim.Native.Nat.{ℕ, zero, suc, _+_, _-_, _*_, _%_}
-use mathlib.Core.Bool.{Bool, true, false}
 use mathlib.Core.List.{List, [], _∷_, _++_}
 use lib.Dec.{leb, ltb, eqb}
 use lib.ListN.{length, drop}
