@@ -4,3 +4,4 @@ pub mod Leads
 pub mod Follows
 pub mod Fetches
 pub mod Serves
+pub mod Table
