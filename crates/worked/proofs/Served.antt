@@ -1,4 +1,4 @@
--- The worked examples of 01 §6 and 03 §6: what `serve` says of them, by computing.
+-- What `serve` says of the worked examples of 01 §6 and 03 §6, by computing.
 use Prim.Native.Nat.{ℕ, _+_}
 use mathlib.Core.List.{List, [], _∷_}
 use mathlib.Core.Path.{_≡_, refl}
