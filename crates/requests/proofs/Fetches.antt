@@ -17,7 +17,8 @@ use Rattle.model.specs.declared.Place.{Place}
 use Rattle.model.specs.declared.Job.the-variants.{Done}
 use Rattle.model.specs.declared.Phase.the-variants.{Header, Payload, Answer}
 use Rattle.model.proofs.Lists.{put-put, part-put, length-part}
-use Rattle.requests.specs.Serve.{total, upTo, past}
+use Rattle.requests.specs.Serve.{total}
+use Rattle.requests.specs.Steps.{upTo, past}
 use Rattle.requests.specs.Guest.{out, gatherFrom}
 use Rattle.requests.proofs.Spans.{Inside, Ahead, ahead-next}
 use Rattle.requests.proofs.Leads.{Leads, Beside, header-turn, payload-turn, payload-last}

@@ -27,7 +27,8 @@ use Rattle.model.proofs.Words.{word-cong}
 use Rattle.model.proofs.Step.{apply-append}
 use Rattle.model.proofs.Sane.{fits-ok}
 use lib.Seq.{drop-at}
-use Rattle.requests.specs.Serve.{Seen, gather, still, total, walk, Followed, broke, whole, follow, lastByte, jobOf, stored, Outcome, idle, breaks, serves, answer, carried, serve, memoryAfter, backingAfter, upTo, past, dataFetches, fetches, chainCalls, calls}
+use Rattle.requests.specs.Serve.{Seen, gather, still, total, walk, Followed, broke, whole, follow, lastByte, jobOf, stored, Outcome, idle, breaks, serves, answer, carried, serve, memoryAfter, backingAfter}
+use Rattle.requests.specs.Steps.{upTo, past, dataFetches, fetches, chainCalls, calls}
 use Rattle.requests.specs.Guest.{after, out, gatherFrom, changing, memories, memoryBeside, stateAfter, Agrees}
 use Rattle.requests.proofs.Spans.{last-is, Inside, Ahead, ahead-next, length-up-to, inside-past, total-past, gather-cut}
 use Rattle.requests.proofs.Leads.{Leads, there, Ended, ended, Beside, poll-turn, entry-turn, answer-turns}

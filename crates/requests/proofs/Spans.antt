@@ -15,7 +15,8 @@ use Rattle.model.specs.Step.{Span, buffer, left, spans}
 use Rattle.model.specs.declared.Place.{Place}
 use Rattle.model.proofs.Tests.{told}
 use Rattle.model.proofs.Lists.{put-below, put-in, part-add, length-part}
-use Rattle.requests.specs.Serve.{gather, total, lastByte, upTo, past}
+use Rattle.requests.specs.Serve.{gather, total, lastByte}
+use Rattle.requests.specs.Steps.{upTo, past}
 use Rattle.requests.specs.Guest.{gatherFrom}
 
 -- words put behind some buffers leave them ..

@@ -10,7 +10,8 @@ use Rattle.model.specs.Step.{Cfg, State, Span, Out, apply, step}
 use Rattle.model.specs.declared.Queue.{Queue}
 use Rattle.model.specs.declared.Phase.{Phase}
 use Rattle.model.specs.declared.Phase.the-variants.{Poll, Broken}
-use Rattle.requests.specs.Serve.{Seen, upTo, past, Outcome, idle, breaks, serves, backingAfter}
+use Rattle.requests.specs.Serve.{Seen, Outcome, idle, breaks, serves, backingAfter}
+use Rattle.requests.specs.Steps.{upTo, past}
 
 -- step number i, over the memory that the guest makes of what the step before has left; and n steps from number i on
 unfoldable pub again : Cfg → (ℕ → List ℕ → List ℕ) → ℕ → Out → Out

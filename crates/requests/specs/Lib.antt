@@ -1,3 +1,4 @@
 pub mod Serve
+pub mod Steps
 pub mod Guest
 pub mod Table

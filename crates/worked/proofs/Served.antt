@@ -10,7 +10,8 @@ use Rattle.model.specs.Chain.{descAt, testedBy, tested}
 use Rattle.model.specs.Request.{fits, inOk, outOk, exactly, verdict, status, reported}
 use Rattle.model.specs.Step.{apply, scatter, handed}
 use Rattle.worked.specs.Setting.{diskFrom, cfg, backing, desc, laid, v1, changed, split}
-use Rattle.requests.specs.Serve.{gather, still, total, walk, linked, follow, lastByte, jobOf, stored, Outcome, breaks, answer, carried, serve, memoryAfter, backingAfter, upTo, past, dataFetches, fetches, chainCalls, calls}
+use Rattle.requests.specs.Serve.{gather, still, total, walk, linked, follow, lastByte, jobOf, stored, Outcome, breaks, answer, carried, serve, memoryAfter, backingAfter}
+use Rattle.requests.specs.Steps.{upTo, past, dataFetches, fetches, chainCalls, calls}
 
 -- both counters 0
 abbrev pub served : List ℕ → Outcome
