@@ -10,7 +10,7 @@ use borrow.Author.Tests.{leb-false, ltb-false, eqb-false}
 use Rattle.model.specs.Pick.{both}
 use Rattle.model.specs.Memory.{Region, locate, sound}
 use Rattle.model.specs.Chain.{descAt, testedBy, tested, tally, held, complete, described, keeps}
-use Rattle.model.specs.Step.{Cfg, Span, Out, spans}
+use Rattle.model.specs.Step.{Cfg, Span, Out, spans, codeAfter}
 use Rattle.model.specs.declared.Found.{Found}
 use Rattle.model.specs.declared.Found.the-variants.{At, Nothing}
 use Rattle.model.specs.declared.Desc.{Desc}
@@ -143,10 +143,10 @@ join m q head map chain rs ws d x s p hd = go (ltb (d .flags) 2) refl (p .in-ord
 module _ (c : Cfg) (g : ℕ → List ℕ → List ℕ) (mems : ℕ → List ℕ) (m : ℕ) (F : ℕ → Out → Type 0) (t a : ℕ) (b stage : List ℕ) (head : ℕ) where
   -- what is to come after the chain: a break leads on, and so does a whole chain with its buffers held
   unfoldable pub Goes : Followed → Type 0
-  Goes (broke reason n) = (i : ℕ) (chain : List ℕ) (code : ℕ) → suc i ≡ 2 + n → Leads c g F (suc i) (out t a (Broken reason head n) (mems i) b chain stage code)
+  Goes (broke reason n) = (i : ℕ) (chain : List ℕ) → suc i ≡ 2 + n → Leads c g F (suc i) (out t a (Broken reason head n) (mems i) b chain stage 3)
   Goes (whole rs ws) =
-      (i : ℕ) (chain : List ℕ) (code : ℕ) → suc i ≡ 2 + (length rs + length ws) → Held m (c .queue .size) chain rs ws
-      → Leads c g F (suc i) (out t a (complete (walk head rs ws)) (mems i) b chain stage code)
+      (i : ℕ) (chain : List ℕ) → suc i ≡ 2 + (length rs + length ws) → Held m (c .queue .size) chain rs ws
+      → Leads c g F (suc i) (out t a (complete (walk head rs ws)) (mems i) b chain stage (codeAfter (complete (walk head rs ws))))
 
   -- from a chain of which these buffers are held, at most f descriptors more
   unfoldable pub Takes : ℕ → Type 0
@@ -156,31 +156,31 @@ module _ (c : Cfg) (g : ℕ → List ℕ → List ℕ) (mems : ℕ → List ℕ)
       → Leads c g F (suc i) (out t a (Chain (walk head rs ws) n) (mems i) b chain stage code)
 
   one-more : Beside c g mems m → (f : ℕ) → Takes f → Takes (suc f)
-  unfolding Takes Goes follow changing tested walk described keeps linked
+  unfolding Takes Goes follow changing tested walk described keeps linked codeAfter
   one-more e f ih n rs ws i chain code h s l hd k =
       let d : Desc = descAt (c .queue .desc + 16 * n) (mems (2 + (length rs + length ws))) in
       chain-turn c g mems F t a b i (walk head rs ws) n chain stage code (e .goes-on i) d (rw h)
-      (λ code. go d code (tested (c .map) (c .queue .size) (walk head rs ws) d) refl k)
+      (go d (tested (c .map) (c .queue .size) (walk head rs ws) d) refl k)
     where
       more : ℕ → List Span → List Span → Followed
       more = λ j xs ys. follow c (changing (c .queue) t mems) head f j xs ys
 
-      go : (d : Desc) (code : ℕ) (x : Tested) → tested (c .map) (c .queue .size) (walk head rs ws) d ≡ x → Goes (linked more d rs ws x)
-          → Leads c g F (suc (suc i)) (out t a (described (walk head rs ws) d x) (mems (suc i)) b (keeps chain (walk head rs ws) d x) stage code)
-      go d code (Bad r) u k = k (suc i) chain code (omega arith)
-      go d code (Next x) u k =
+      go : (d : Desc) (x : Tested) → tested (c .map) (c .queue .size) (walk head rs ws) d ≡ x → Goes (linked more d rs ws x)
+          → Leads c g F (suc (suc i)) (out t a (described (walk head rs ws) d x) (mems (suc i)) b (keeps chain (walk head rs ws) d x) stage (codeAfter (described (walk head rs ws) d x)))
+      go d (Bad r) u k = k (suc i) chain (omega arith)
+      go d (Next x) u k =
           let p = passed-next (leb (c .queue .size) (length rs + length ws)) _ _ _ _ _ _ x u in
           let j = join m (c .queue .size) head (c .map) chain rs ws d x (e .map-sound) p hd in
           let r = leb-false (c .queue .size) (length rs + length ws) (p .some-left) in
           let z = j .longer in
           rw (j .tallied)
-          (ih (d .next) (j .reads) (j .writes) (suc i) (held chain (length rs + length ws) x (d .len)) code (omega arith) (omega arith) (omega arith) (j .held-is)
+          (ih (d .next) (j .reads) (j .writes) (suc i) (held chain (length rs + length ws) x (d .len)) 1 (omega arith) (omega arith) (omega arith) (j .held-is)
           (rw (j .next-is more) at k))
-      go d code (Last x) u k =
+      go d (Last x) u k =
           let p = passed-last (leb (c .queue .size) (length rs + length ws)) _ _ _ _ _ _ x u in
           let j = join m (c .queue .size) head (c .map) chain rs ws d x (e .map-sound) p hd in
           let z = j .longer in
-          rw (j .tallied) ((rw (j .last-is more) at k) (suc i) (held chain (length rs + length ws) x (d .len)) code (omega arith) (j .held-is))
+          rw (j .tallied) ((rw (j .last-is more) at k) (suc i) (held chain (length rs + length ws) x (d .len)) (omega arith) (j .held-is))
 
   pub takes-chain : Beside c g mems m → (f : ℕ) → Takes f
   unfolding Takes

@@ -10,7 +10,7 @@ use Rattle.model.specs.Bytes.{put, part, word, bytes}
 use Rattle.model.specs.Memory.{sound}
 use Rattle.model.specs.Ring.{oneMore, polled, headed}
 use Rattle.model.specs.Chain.{descAt, tested, described, keeps}
-use Rattle.model.specs.Step.{Cfg, Out, left, lacks, ends, paid, gathered, want, next, chained, staged, effect, memStores, answerStores, diskStores, diskOf, shifted, apply, counted, codeOf, stepWith, step}
+use Rattle.model.specs.Step.{Cfg, Out, left, lacks, ends, paid, gathered, want, next, chained, staged, effect, memStores, answerStores, diskStores, diskOf, shifted, apply, counted, codeOf, codeAfter, stepWith, step}
 use Rattle.model.specs.declared.Desc.{Desc}
 use Rattle.model.specs.declared.Walk.{Walk}
 use Rattle.model.specs.declared.Place.{Place}
@@ -51,24 +51,24 @@ word-two k m = rw add-zero at (word-part 2 0 k 2 m (omega arith))
 
 module _ (c : Cfg) (g : ℕ → List ℕ → List ℕ) (mems : ℕ → List ℕ) (F : ℕ → Out → Type 0) (t a : ℕ) (b : List ℕ) where
   pub poll-turn : (m chain stage : List ℕ) (code : ℕ) → g 0 m ≡ mems 0
-      → ((code : ℕ) → Leads c g F 1 (out t a (polled (c .queue .size) t (word 2 (c .queue .avail + 2) (mems 0))) (mems 0) b chain stage code))
+      → Leads c g F 1 (out t a (polled (c .queue .size) t (word 2 (c .queue .avail + 2) (mems 0))) (mems 0) b chain stage (codeAfter (polled (c .queue .size) t (word 2 (c .queue .avail + 2) (mems 0)))))
       → Leads c g F 0 (out t a Poll m b chain stage code)
   unfolding again step stepWith want next chained staged effect memStores diskStores shifted apply counted codeOf
-  poll-turn m chain stage code e f = turn 0 (out t a Poll m b chain stage code) (rw (e, word-two) (f _))
+  poll-turn m chain stage code e f = turn 0 (out t a Poll m b chain stage code) (rw (e, word-two) f)
 
   pub entry-turn : (chain stage : List ℕ) (code : ℕ) → g 1 (mems 0) ≡ mems 1
-      → ((code : ℕ) → Leads c g F 2 (out t a (headed (c .queue .size) (word 2 (c .queue .avail + (4 + 2 * (t % c .queue .size))) (mems 1))) (mems 1) b chain stage code))
+      → Leads c g F 2 (out t a (headed (c .queue .size) (word 2 (c .queue .avail + (4 + 2 * (t % c .queue .size))) (mems 1))) (mems 1) b chain stage (codeAfter (headed (c .queue .size) (word 2 (c .queue .avail + (4 + 2 * (t % c .queue .size))) (mems 1)))))
       → Leads c g F 1 (out t a Entry (mems 0) b chain stage code)
   unfolding again step stepWith want next chained staged effect memStores diskStores shifted apply counted codeOf
-  entry-turn chain stage code e f = turn 1 (out t a Entry (mems 0) b chain stage code) (rw (e, word-two) (f _))
+  entry-turn chain stage code e f = turn 1 (out t a Entry (mems 0) b chain stage code) (rw (e, word-two) f)
 
   pub chain-turn : (i : ℕ) (k : Walk) (n : ℕ) (chain stage : List ℕ) (code : ℕ) → g (suc i) (mems i) ≡ mems (suc i) → (d : Desc)
       → descAt (c .queue .desc + 16 * n) (mems (suc i)) ≡ d
-      → ((code : ℕ) → Leads c g F (suc (suc i))
-      (out t a (described k d (tested (c .map) (c .queue .size) k d)) (mems (suc i)) b (keeps chain k d (tested (c .map) (c .queue .size) k d)) stage code))
+      → Leads c g F (suc (suc i))
+      (out t a (described k d (tested (c .map) (c .queue .size) k d)) (mems (suc i)) b (keeps chain k d (tested (c .map) (c .queue .size) k d)) stage (codeAfter (described k d (tested (c .map) (c .queue .size) k d))))
       → Leads c g F (suc i) (out t a (Chain k n) (mems i) b chain stage code)
   unfolding again step stepWith want next chained staged effect memStores diskStores shifted apply counted codeOf
-  chain-turn i k n chain stage code e d h f = turn (suc i) (out t a (Chain k n) (mems i) b chain stage code) (rw (e, desc-part, h) (f _))
+  chain-turn i k n chain stage code e d h f = turn (suc i) (out t a (Chain k n) (mems i) b chain stage code) (rw (e, desc-part, h) f)
 
   pub header-turn : (i : ℕ) (k : Walk) (p : Place) (got : ℕ) (chain stage : List ℕ) (code : ℕ) → g (suc i) (mems i) ≡ mems (suc i) → (bs : List ℕ)
       → part (left chain p .at) (lacks got (left chain p .len)) (mems (suc i)) ≡ bs
@@ -99,12 +99,12 @@ module _ (c : Cfg) (g : ℕ → List ℕ → List ℕ) (mems : ℕ → List ℕ)
 
   -- S6 and S7
   pub answer-turns : (i : ℕ) (k : Walk) (job : Job) (got : ℕ) (chain stage : List ℕ) (code : ℕ) → g (suc i) (mems i) ≡ mems (suc i)
-      → ((code : ℕ) → F (suc (suc (suc i)))
+      → F (suc (suc (suc i)))
       (out (oneMore t) (oneMore a) Poll
       (apply (record { to = c .queue .used + 2; bytes = bytes 2 (oneMore a) } ∷ [])
-      (g (suc (suc i)) (apply (answerStores (c .id) (c .queue) a chain (diskOf (c .disk) b) k job) (mems (suc i))))) b chain stage code))
+      (g (suc (suc i)) (apply (answerStores (c .id) (c .queue) a chain (diskOf (c .disk) b) k job) (mems (suc i))))) b chain stage 2)
       → Leads c g F (suc i) (out t a (Answer k job got) (mems i) b chain stage code)
   unfolding again step stepWith want next chained staged effect memStores diskStores shifted counted codeOf
   answer-turns i k job got chain stage code e f =
       let o = out t a (Answer k job got) (mems i) b chain stage code in
-      turn (suc i) o (turn (suc (suc i)) (again c g (suc i) o) (there (suc (suc (suc i))) (again c g (suc (suc i)) (again c g (suc i) o)) (rw e (f _))))
+      turn (suc i) o (turn (suc (suc i)) (again c g (suc i) o) (there (suc (suc (suc i))) (again c g (suc (suc i)) (again c g (suc i) o)) (rw e f)))

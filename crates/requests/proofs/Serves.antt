@@ -14,7 +14,7 @@ use Rattle.model.specs.Memory.{sound}
 use Rattle.model.specs.Ring.{pending, polled, headed as enters, fresh}
 use Rattle.model.specs.Chain.{complete}
 use Rattle.model.specs.Request.{fits, inOk, outOk, exactly, verdict, status, reported, decided}
-use Rattle.model.specs.Step.{Cfg, Span, Out, spans, scatter, handed, usedAt, diskOf, answerStores}
+use Rattle.model.specs.Step.{Cfg, Span, Out, spans, scatter, handed, usedAt, diskOf, answerStores, codeAfter}
 use Rattle.model.specs.declared.Disk.{Disk}
 use Rattle.model.specs.declared.Queue.{Queue}
 use Rattle.model.specs.declared.Place.{Place}
@@ -29,7 +29,7 @@ use Rattle.model.proofs.Sane.{fits-ok}
 use lib.Seq.{drop-at}
 use Rattle.requests.specs.Serve.{Seen, gather, still, total, walk, Followed, broke, whole, follow, lastByte, jobOf, stored, Outcome, idle, breaks, serves, answer, carried, serve, memoryAfter, backingAfter}
 use Rattle.requests.specs.Steps.{upTo, past, dataFetches, fetches, chainCalls, calls}
-use Rattle.requests.specs.Guest.{after, out, gatherFrom, changing, memories, memoryBeside, stateAfter, Agrees}
+use Rattle.requests.specs.Guest.{after, out, gatherFrom, changing, memories, memoryBeside, stateAfter, codeFor, Agrees}
 use Rattle.requests.proofs.Spans.{last-is, Inside, Ahead, ahead-next, length-up-to, inside-past, total-past, gather-cut}
 use Rattle.requests.proofs.Leads.{Leads, there, Ended, ended, Beside, poll-turn, entry-turn, answer-turns}
 use Rattle.requests.proofs.Follows.{Held, Goes, Takes, takes-chain}
@@ -91,14 +91,14 @@ stores-are id q a chain disk m size head rs s ws job hd =
 module _ (c : Cfg) (g : ℕ → List ℕ → List ℕ) (mems : ℕ → List ℕ) (m : ℕ) (t a : ℕ) (b : List ℕ) where
   -- after n steps this outcome, n being the number that was stated
   unfoldable pub Result : ℕ → Outcome → ℕ → Out → Type 0
-  Result calls w n o = (n ≡ calls) × (o .state ≡ stateAfter w t a) × (o .mem ≡ memoryBeside g mems n w) × (o .backing ≡ backingAfter w b)
+  Result calls w n o = (n ≡ calls) × (o .state ≡ stateAfter w t a) × (o .mem ≡ memoryBeside g mems n w) × (o .backing ≡ backingAfter w b) × (o .code ≡ codeFor w)
 
-  breaks-here : (i reason head n : ℕ) (chain stage : List ℕ) (code calls : ℕ) → suc i ≡ calls
-      → Leads c g (Result calls (breaks reason head n)) (suc i) (out t a (Broken reason head n) (mems i) b chain stage code)
-  unfolding Result stateAfter memoryBeside backingAfter
-  breaks-here i reason head n chain stage code calls h =
+  breaks-here : (i reason head n : ℕ) (chain stage : List ℕ) (calls : ℕ) → suc i ≡ calls
+      → Leads c g (Result calls (breaks reason head n)) (suc i) (out t a (Broken reason head n) (mems i) b chain stage 3)
+  unfolding Result stateAfter memoryBeside backingAfter codeFor
+  breaks-here i reason head n chain stage calls h =
       let z : suc i - 1 ≡ i = omega arith in
-      there (suc i) (out t a (Broken reason head n) (mems i) b chain stage code) (h, refl, rw z refl, refl)
+      there (suc i) (out t a (Broken reason head n) (mems i) b chain stage 3) (h, refl, rw z refl, refl, refl)
 
   -- S6 and S7 of a job that hands out the same bytes and has the same status as the verdict
   finish : Beside c g mems m → (i head : ℕ) (rs : List Span) (s : Span) (ws : List Span) (string : List ℕ) (job does : Job) (got : ℕ) (b₂ chain stage : List ℕ) (code calls : ℕ)
@@ -106,12 +106,12 @@ module _ (c : Cfg) (g : ℕ → List ℕ → List ℕ) (mems : ℕ → List ℕ)
       → handed (c .id) (diskOf (c .disk) b₂) (walk head rs (s ∷ ws)) does ≡ handed (c .id) (diskOf (c .disk) b) (walk head rs (s ∷ ws)) job
       → b₂ ≡ stored (c .disk) job (drop 16 string) b → suc (suc (suc i)) ≡ calls
       → Leads c g (Result calls (answer c a b head rs (s ∷ ws) string job)) (suc i) (out t a (Answer (walk head rs (s ∷ ws)) does got) (mems i) b₂ chain stage code)
-  unfolding Result stateAfter memoryBeside backingAfter answer
+  unfolding Result stateAfter memoryBeside backingAfter codeFor answer
   finish e i head rs s ws string job does got b₂ chain stage code calls hd st ha ba h =
       let y : suc (suc (suc i)) - 1 ≡ suc (suc i) = omega arith in
       let z : suc (suc (suc i)) - 2 ≡ suc i = omega arith in
       answer-turns c g mems (Result calls (answer c a b head rs (s ∷ ws) string job)) t a b₂ i (walk head rs (s ∷ ws)) does got chain stage code (e .goes-on i)
-      (λ code. (h, refl, rw (y, z, stores-are (c .id) (c .queue) a chain (diskOf (c .disk) b₂) m (c .queue .size) head rs s ws does hd, st, ha) refl, ba))
+      (h, refl, rw (y, z, stores-are (c .id) (c .queue) a chain (diskOf (c .disk) b₂) m (c .queue .size) head rs s ws does hd, st, ha) refl, ba, refl)
 
   -- an accepted OUT: with no data it is done, with some it is fetched and stored first
   carry-write : Beside c g mems m → (i head : ℕ) (rs : List Span) (s : Span) (ws : List Span) (hs : List ℕ) (z : ℕ) (p : Place) (chain stage : List ℕ) (code calls : ℕ) (ps : List Span)
@@ -202,21 +202,21 @@ module _ (c : Cfg) (g : ℕ → List ℕ → List ℕ) (mems : ℕ → List ℕ)
 
   goes : Beside c g mems m → (head : ℕ) (stage : List ℕ) → 1048576 ≤ length stage → (x : Followed)
       → Goes c g mems m (Result (chainCalls c (changing (c .queue) t mems) x) (carried c (changing (c .queue) t mems) a b head x)) t a b stage head x
-  unfolding Goes chainCalls carried complete walk
-  goes e head stage l (broke reason n) = λ i chain code h. breaks-here i reason head n chain stage code (2 + n) h
+  unfolding Goes chainCalls carried complete walk codeAfter
+  goes e head stage l (broke reason n) = λ i chain h. breaks-here i reason head n chain stage (2 + n) h
   goes e head stage l (whole rs []) =
-      λ i chain code h hd.
+      λ i chain h hd.
       let u : leb (length rs + 0) (length rs) ≡ true = le-leb (length rs + 0) (length rs) (omega arith) in
-      rw (u, add-zero) (breaks-here i 8 head (length rs) chain stage code (2 + length rs) (omega arith))
-  goes e head stage l (whole rs (s ∷ ws)) = λ i chain code h hd. served e i head rs s ws chain stage code l h hd
+      rw (u, add-zero) (breaks-here i 8 head (length rs) chain stage (2 + length rs) (omega arith))
+  goes e head stage l (whole rs (s ∷ ws)) = λ i chain h hd. served e i head rs s ws chain stage _ l h hd
 
   -- every guest: from S1 on, whatever is in private memory
   leads : Beside c g mems m → (mem chain stage : List ℕ) (code : ℕ) → g 0 mem ≡ mems 0 → 2 * c .queue .size ≤ length chain → 1048576 ≤ length stage
       → Leads c g (Result (calls c (changing (c .queue) t mems) t) (serve c (changing (c .queue) t mems) t a b)) 0 (out t a Poll mem b chain stage code)
-  unfolding calls serve changing polled enters walk total Takes spans Inside Result stateAfter memoryBeside backingAfter
+  unfolding calls serve changing polled enters walk total Takes spans Inside Result stateAfter memoryBeside backingAfter codeFor codeAfter
   leads e mem chain stage code h r l =
       poll-turn c g mems (Result (calls c v t) (serve c v t a b)) t a b mem chain stage code h
-      (λ code. first (eqb (pending (v .idx) t) 0) (ltb (c .queue .size) (pending (v .idx) t)) code)
+      (first (eqb (pending (v .idx) t) 0) (ltb (c .queue .size) (pending (v .idx) t)))
     where
       v : Seen
       v = changing (c .queue) t mems
@@ -224,24 +224,24 @@ module _ (c : Cfg) (g : ℕ → List ℕ → List ℕ) (mems : ℕ → List ℕ)
       x : Followed
       x = follow c v (v .entry) (c .queue .size + 1) (v .entry) [] []
 
-      second : (q : Bool) (code : ℕ)
+      second : (q : Bool)
           → Leads c g (Result (pick q 2 (chainCalls c v x)) (pick q (breaks 2 0 0) (carried c v a b (v .entry) x))) 2
-          (out t a (pick q (Broken 2 0 0) (Chain (fresh (v .entry)) (v .entry))) (mems 1) b chain stage code)
-      second true code = breaks-here 1 2 0 0 chain stage code 2 refl
-      second false code =
-          takes-chain c g mems m (Result (chainCalls c v x) (carried c v a b (v .entry) x)) t a b stage (v .entry) e (c .queue .size + 1) (v .entry) [] [] 1 chain code refl (omega arith) (omega arith)
+          (out t a (pick q (Broken 2 0 0) (Chain (fresh (v .entry)) (v .entry))) (mems 1) b chain stage (codeAfter (pick q (Broken 2 0 0) (Chain (fresh (v .entry)) (v .entry)))))
+      second true = breaks-here 1 2 0 0 chain stage 2 refl
+      second false =
+          takes-chain c g mems m (Result (chainCalls c v x) (carried c v a b (v .entry) x)) t a b stage (v .entry) e (c .queue .size + 1) (v .entry) [] [] 1 chain 1 refl (omega arith) (omega arith)
           (record { reads-are = refl; writes-are = refl; reads-in = tt; writes-in = tt; room = r }) (goes e (v .entry) stage l x)
 
-      first : (p q : Bool) (code : ℕ)
+      first : (p q : Bool)
           → Leads c g
           (Result (pick p 1 (pick q 1 (pick (leb (c .queue .size) (v .entry)) 2 (chainCalls c v x))))
           (pick p idle (pick q (breaks 1 0 0) (pick (leb (c .queue .size) (v .entry)) (breaks 2 0 0) (carried c v a b (v .entry) x)))))
-          1 (out t a (pick p Poll (pick q (Broken 1 0 0) Entry)) (mems 0) b chain stage code)
-      first true q code = there 1 (out t a Poll (mems 0) b chain stage code) (refl, refl, refl, refl)
-      first false true code = breaks-here 0 1 0 0 chain stage code 1 refl
-      first false false code =
+          1 (out t a (pick p Poll (pick q (Broken 1 0 0) Entry)) (mems 0) b chain stage (codeAfter (pick p Poll (pick q (Broken 1 0 0) Entry))))
+      first true q = there 1 (out t a Poll (mems 0) b chain stage 0) (refl, refl, refl, refl, refl)
+      first false true = breaks-here 0 1 0 0 chain stage 1 refl
+      first false false =
           entry-turn c g mems (Result (pick (leb (c .queue .size) (v .entry)) 2 (chainCalls c v x)) (pick (leb (c .queue .size) (v .entry)) (breaks 2 0 0) (carried c v a b (v .entry) x))) t a b
-          chain stage code (e .goes-on 0) (λ code. second (leb (c .queue .size) (v .entry)) code)
+          chain stage 1 (e .goes-on 0) (second (leb (c .queue .size) (v .entry)))
 
 -- the number of steps is the stated one
 result : (c : Cfg) (g : ℕ → List ℕ → List ℕ) (mems : ℕ → List ℕ) (m t a : ℕ) (b : List ℕ) (calls : ℕ) (w : Outcome) (o : Out) → Ended c g (Result c g mems m t a b calls w) 0 o
@@ -250,7 +250,7 @@ unfolding Result
 result c g mems m t a b calls w o r =
     let k = rw zero-add at (r .holds) in
     let n : r .steps ≡ calls = k .0 in
-    record { state-is = rw n at (k .1); mem-is = rw n at (k .2); backing-is = rw n at (k .3) }
+    record { state-is = rw n at (k .1); mem-is = rw n at (k .2); backing-is = rw n at (k .3); code-is = rw n at (k .4) }
 
 length-memories : (g : ℕ → List ℕ → List ℕ) (mem : List ℕ) → ((i : ℕ) (x : List ℕ) → length (g i x) ≡ length x) → (i : ℕ) → length (memories g mem i) ≡ length mem
 unfolding memories

@@ -59,8 +59,15 @@ stateAfter idle t a = record { taken = t; answered = a; phase = Poll }
 stateAfter (breaks reason head fetched) t a = record { taken = t; answered = a; phase = Broken reason head fetched }
 stateAfter (serves writes idx after head len) t a = record { taken = oneMore t; answered = oneMore a; phase = Poll }
 
--- an output of the device is what an outcome says: the state, guest memory and the backing slice
+-- what the last of the calls answers: "0 nothing to do · 2 a request was answered just now · 3 broken in this step"
+unfoldable pub codeFor : Outcome → ℕ
+codeFor idle = 0
+codeFor (breaks reason head fetched) = 3
+codeFor (serves writes idx after head len) = 2
+
+-- an output of the device is what an outcome says: the state, guest memory, the backing slice and the answer
 pub record Agrees (w : Outcome) (t a : ℕ) (mem backing : List ℕ) (o : Out) : Type 0 where
   pub state-is : o .state ≡ stateAfter w t a
   pub mem-is : o .mem ≡ mem
   pub backing-is : o .backing ≡ backingAfter w backing
+  pub code-is : o .code ≡ codeFor w
