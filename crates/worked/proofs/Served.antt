@@ -1,14 +1,19 @@
 -- What `serve` says of the worked examples of 01 §6 and 03 §6, by computing.
-use Prim.Native.Nat.{ℕ, _+_}
+use Prim.Native.Nat.{ℕ, _+_, _*_, _≤_}
+use mathlib.Core.Bool.{true}
+use native.Mathlib.Omega.{arith}
 use mathlib.Core.List.{List, [], _∷_}
 use mathlib.Core.Path.{_≡_, refl}
-use lib.ListN.{getD, replicate}
+use lib.ListN.{length, getD, replicate}
 use Rattle.model.specs.Bytes.{put, part, word, bytes}
-use Rattle.model.specs.Memory.{contains, locate}
+use Rattle.model.specs.Memory.{regionCode, sound, contains, locate}
 use Rattle.model.specs.Ring.{pending, oneMore}
 use Rattle.model.specs.Chain.{descAt, testedBy, tested}
 use Rattle.model.specs.Request.{fits, inOk, outOk, exactly, verdict, status, reported}
 use Rattle.model.specs.Step.{apply, scatter, handed}
+use Rattle.model.specs.declared.Phase.the-variants.{Poll}
+use Rattle.requests.specs.Guest.{after, out, Agrees}
+use Rattle.requests.proofs.Serves.{serves-still}
 use Rattle.worked.specs.Setting.{diskFrom, cfg, backing, desc, laid, v1, changed, split}
 use Rattle.requests.specs.Serve.{gather, still, total, walk, linked, follow, lastByte, jobOf, stored, Outcome, breaks, answer, carried, serve, memoryAfter, backingAfter}
 use Rattle.requests.specs.Steps.{upTo, past, dataFetches, fetches, chainCalls, calls}
@@ -47,3 +52,13 @@ pub split-served :
     × (getD (memoryAfter (served split) split) 0x6000 7 ≡ 0) × (calls (cfg 0) (still (cfg 0 .queue) 0 split) 0 ≡ 10)
 unfolding put part word bytes contains locate pending oneMore descAt testedBy tested fits inOk outOk exactly verdict status reported apply scatter handed diskFrom cfg backing desc laid split gather still total walk linked follow lastByte jobOf stored answer carried serve memoryAfter backingAfter upTo past dataFetches fetches chainCalls calls
 split-served = (refl, refl, refl, refl)
+
+-- the theorem about a memory that is held still has V1 among its cases: its conditions can be met
+pub v1-conditions : (sound (length v1) (cfg 0 .map) ≡ true) × (2 * cfg 0 .queue .size ≤ length {A = ℕ} (replicate 16 0))
+unfolding sound regionCode put bytes cfg desc laid v1
+v1-conditions = (refl, omega arith)
+
+pub v1-steps : (stage : List ℕ) (code : ℕ) → 1048576 ≤ length stage
+    → Agrees (served v1) 0 0 (memoryAfter (served v1) v1) backing
+    (after (cfg 0) (λ i x. x) 0 (calls (cfg 0) (still (cfg 0 .queue) 0 v1) 0) (out 0 0 Poll v1 backing (replicate 16 0) stage code))
+v1-steps stage code h = serves-still (cfg 0) 0 0 v1 backing (replicate 16 0) stage code (v1-conditions .0) (v1-conditions .1) h
