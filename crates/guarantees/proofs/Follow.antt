@@ -22,7 +22,8 @@ use Rattle.hostiledisk.specs.Calls.{Called, hdStep, untouched, isBroken, longEn
 use Rattle.hostiledisk.proofs.Laws.{level-three}
 use Rattle.guarantees.specs.History.{Call, step as stepOver, World, ran, left as leaves, run, steps}
 use Rattle.guarantees.specs.Good.{Made}
-use Rattle.guarantees.specs.Follow.{Matches, model}
+use Rattle.guarantees.specs.Follow.{Matches, model, found}
+use Rattle.requests.specs.Guest.{again, after}
 use Rattle.guarantees.proofs.Reached.{map-saved, made-ready, made-step}
 use Rattle.guarantees.proofs.Stays.{stays}
 use Rattle.guarantees.proofs.Walls.{stores-length}
@@ -205,3 +206,15 @@ follows-model c n w o [] h m = m
 follows-model c n w o (x ∷ ms) h m =
     let r = beside c n w (o .state .taken) (o .state .answered) x (o .backing) (o .chain) (o .stage) (h .0) (h .1) (o .state .phase) m in
     follows-model c n (leaves (ran w (stepOver x))) (step c (o .state) x (o .backing) (o .chain) (o .stage)) ms (h .2) (r .after)
+
+after-model : (c : Cfg) (g : ℕ → List ℕ → List ℕ) (i n : ℕ) (o : Out) → after c g i n o ≡ model c o (found c g i n o)
+unfolding after again model found
+after-model c g i zero o = refl
+after-model c g i (suc n) o = after-model c g (suc i) n (again c g i o)
+
+-- 5 and 6 of the calls: as many calls of hd_step beside any guest leave the state, the backing slice and private memory that `serves-still` and
+-- `serves-as-fetched` (crate `requests`) say of the model's steps
+pub calls-serve : (c : Cfg) (g : ℕ → List ℕ → List ℕ) (i k n : ℕ) (w : World) (o : Out) → Memories n (found c g i k o)
+    → Matches c n w (o .state) (o .backing) (o .chain) (o .stage)
+    → Matches c n (run w (steps (found c g i k o))) (after c g i k o .state) (after c g i k o .backing) (after c g i k o .chain) (after c g i k o .stage)
+calls-serve c g i k n w o h m = rw (after-model c g i k o) (follows-model c n w o (found c g i k o) h m)

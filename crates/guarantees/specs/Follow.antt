@@ -1,5 +1,6 @@
 -- The calls beside the model: the words decode to the model's state, and the lent memory is the model's.
-use Prim.Native.Nat.{ℕ, _≤_}
+use Prim.Native.Nat.{ℕ, zero, suc, _≤_}
+use Rattle.requests.specs.Guest.{again}
 use mathlib.Core.Bool.{true}
 use mathlib.Core.List.{List, [], _∷_}
 use mathlib.Core.Path.{_≡_}
@@ -29,3 +30,8 @@ pub record Matches (c : Cfg) (n : ℕ) (w : World) (s : State) (backing chain st
 unfoldable pub model : Cfg → Out → List (List ℕ) → Out
 model c o [] = o
 model c o (m ∷ ms) = model c (step c (o .state) m (o .backing) (o .chain) (o .stage)) ms
+
+-- the memories that n steps find beside a guest that makes of guest memory what it likes before each (crate `requests`)
+unfoldable pub found : Cfg → (ℕ → List ℕ → List ℕ) → ℕ → ℕ → Out → List (List ℕ)
+found c g i zero o = []
+found c g i (suc n) o = g i (o .mem) ∷ found c g (suc i) n (again c g i o)

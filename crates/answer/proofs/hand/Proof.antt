@@ -10,10 +10,6 @@ use denote.Ref.{now}
 use borrow.Author.Needs.{needs}
 use Rattle.answer.proofs.hand.Statement.{statement}
 use Rattle.answer.proofs.hand.Tie as tie
-use Rattle.answer.proofs.hand.Reads as reads
-use Rattle.answer.proofs.hand.Lts as lts
-use Rattle.answer.proofs.spread.Reads as spread-reads
-use Rattle.answer.proofs.spread_identity.Reads as spread-identity-reads
 
 enum-told : tie.Need-enum-told
 enum-told c = search needs
@@ -24,71 +20,56 @@ enum-told-2 c = search needs
 enum-told-3 : tie.Need-enum-told-3
 enum-told-3 c = search needs
 
--- src/lib.rt:88:19
 enum-known-job : tie.Need-enum-known-job
 enum-known-job c = search needs
 
--- src/lib.rt:89:42
 mul-spread : tie.Need-mul-spread
 mul-spread c = let f = read-fits _ _ _ (rw (c .before .job .given .1) at (c .before .before .before .before .before .before .pre .1 .1 .0)) in omega (arith, f .to, c .before .before .before .before .before .before .pre .0)
 
--- src/lib.rt:89:29
 add-spread : tie.Need-add-spread
 add-spread c = let f = read-fits _ _ _ (rw (c .before .before .job .given .1) at (c .before .before .before .before .before .before .before .pre .1 .1 .0)) in omega (arith, f .to, c .before .before .before .before .before .before .before .pre .0)
 
--- src/lib.rt:89:51
 sub-spread : tie.Need-sub-spread
 sub-spread c = search needs
 
--- src/lib.rt:89:13
 spread-requires : tie.Need-spread-requires
 spread-requires c κs = let f = read-fits _ _ _ (rw (c .before .before .before .before .job .given .1) at (c .before .before .before .before .before .before .before .before .before .pre .1 .1 .0)) in (omega (arith, f .to, c .before .before .before .before .before .before .before .before .before .pre .0), (c .before .before .before .before .before .before .before .before .before .pre .1 .1 .1 .0, c .before .before .before .before .before .before .before .before .before .pre .1 .1 .1 .1))
 
 enum-told-4 : tie.Need-enum-told-4
 enum-told-4 c = search needs
 
--- src/lib.rt:93:69
 enum-told-5 : tie.Need-enum-told-5
 enum-told-5 c = search needs
 
--- src/lib.rt:93:13
 spread-identity-requires : tie.Need-spread-identity-requires
 spread-identity-requires c κs = search needs
 
--- src/lib.rt:76:1
 returns : tie.Need-returns
 unfolding handed
 returns c = rw (c .enum-told .given .1, scatter-nil)
 
--- src/lib.rt:76:1
 returns-2 : tie.Need-returns-2
 unfolding handed
 returns-2 c = rw (c .enum-told2 .given .1, scatter-nil)
 
--- src/lib.rt:76:1
 returns-3 : tie.Need-returns-3
 unfolding handed
 returns-3 c = rw (c .enum-told3 .given .1, scatter-nil)
 
--- src/lib.rt:76:1
 same-length : tie.Need-same-length
 same-length c = search needs
 
--- src/lib.rt:76:1
 returns-4 : tie.Need-returns-4
 unfolding handed
 returns-4 c = let a = c .before .before .before .before .before .before .before .before .before .before .before .before .args in let f = read-fits _ _ _ (rw (c .before .before .before .before .before .before .before .job .given .1) at (c .before .before .before .before .before .before .before .before .before .before .before .before .pre .1 .1 .0)) in let s = c .before .before .before .before .before .before .before .job .given .0 .0 in rw (c .before .before .before .before .before .before .before .job .given .1, part-part (a .disk .start) (512 * s) (512 * a .disk .sectors) (a .k .w - 1) (now (a .backing)) (omega (arith, f .to))) (c .before .before .spread .ensures)
 
--- src/lib.rt:76:1
 returns-5 : tie.Need-returns-5
 unfolding handed
 returns-5 c = rw (c .enum-told4 .given .1, scatter-nil)
 
--- src/lib.rt:76:1
 same-length-2 : tie.Need-same-length-2
 same-length-2 c = search needs
 
--- src/lib.rt:76:1
 returns-6 : tie.Need-returns-6
 unfolding handed
 returns-6 c = rw (c .before .before .before .before .enum-told5 .given .1) (c .before .before .spread-identity .ensures)

@@ -3,49 +3,34 @@ use Rattle.answer.specs.Identity.{idBytes}
 use borrow.Author.Needs.{needs}
 use Rattle.answer.proofs.spread_identity.Statement.{statement}
 use Rattle.answer.proofs.spread_identity.Tie as tie
-use Rattle.answer.proofs.spread_identity.Reads as reads
-use Rattle.answer.proofs.spread_identity.Lts as lts
-use Rattle.answer.proofs.spread.Reads as spread-reads
-use Rattle.wire.proofs.put32.Reads as put32-reads
-use Rattle.wire.proofs.put64.Reads as put64-reads
 
--- src/lib.rt:50:17
 slice-aggregate-put64 : tie.Need-slice-aggregate-put64
 slice-aggregate-put64 c = search needs
 
--- src/lib.rt:50:5
 put64-requires : tie.Need-put64-requires
 put64-requires c κs = search needs
 
--- src/lib.rt:51:17
 slice-aggregate-put64-2 : tie.Need-slice-aggregate-put64-2
 slice-aggregate-put64-2 c = search needs
 
--- src/lib.rt:51:5
 put64-requires-2 : tie.Need-put64-requires-2
 put64-requires-2 c κs = search needs
 
--- src/lib.rt:52:17
 slice-aggregate-put32 : tie.Need-slice-aggregate-put32
 slice-aggregate-put32 c = search needs
 
--- src/lib.rt:52:5
 put32-requires : tie.Need-put32-requires
 put32-requires c κs = search needs
 
--- src/lib.rt:53:12
 slice-aggregate-spread : tie.Need-slice-aggregate-spread
 slice-aggregate-spread c = search needs
 
--- src/lib.rt:53:5
 spread-requires : tie.Need-spread-requires
 spread-requires c κs = search needs
 
--- src/lib.rt:44:1
 same-length : tie.Need-same-length
 same-length c = search needs
 
--- src/lib.rt:44:1
 returns : tie.Need-returns
 unfolding idBytes part put bytes
 returns c = rw (c .before .before .spread .ensures, c .before .before .before .before .before .before .put32 .ensures, c .before .before .before .before .before .before .before .before .before .put642 .ensures, c .before .before .before .before .before .before .before .before .before .before .before .before .put64 .ensures)

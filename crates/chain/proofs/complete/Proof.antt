@@ -2,20 +2,15 @@ use Rattle.model.proofs.Tests.{tests}
 use Rattle.model.specs.Chain.{descAt, testedBy, tested, tally, held, complete, described, keeps}
 use Rattle.chain.proofs.complete.Statement.{statement}
 use Rattle.chain.proofs.complete.Tie as tie
-use Rattle.chain.proofs.complete.Reads as reads
-use Rattle.chain.proofs.complete.Lts as lts
 
--- src/lib.rt:105:9
 returns : tie.Need-returns
 unfolding complete
 returns c = search tests
 
--- src/lib.rt:108:9
 returns-2 : tie.Need-returns-2
 unfolding complete
 returns-2 c = search tests
 
--- src/lib.rt:101:1
 returns-3 : tie.Need-returns-3
 unfolding complete
 returns-3 c = search tests

@@ -4,42 +4,31 @@ use Rattle.model.specs.Chain.{descAt, testedBy, tested, tally, held, complete, 
 use borrow.Author.Needs.{needs}
 use Rattle.chain.proofs.hold.Statement.{statement}
 use Rattle.chain.proofs.hold.Tie as tie
-use Rattle.chain.proofs.hold.Reads as reads
-use Rattle.chain.proofs.hold.Lts as lts
 
--- src/lib.rt:97:11
 mul-chain : tie.Need-mul-chain
 mul-chain c = search needs
 
--- src/lib.rt:97:5
 mul-chain-2 : tie.Need-mul-chain-2
 mul-chain-2 c = search needs
 
--- src/lib.rt:97:5
 slice-write-chain : tie.Need-slice-write-chain
 slice-write-chain c = search needs
 
--- src/lib.rt:98:11
 mul-chain-3 : tie.Need-mul-chain-3
 mul-chain-3 c = search needs
 
--- src/lib.rt:98:11
 add-chain : tie.Need-add-chain
 add-chain c = search needs
 
--- src/lib.rt:98:5
 mul-chain-4 : tie.Need-mul-chain-4
 mul-chain-4 c = search needs
 
--- src/lib.rt:98:5
 slice-write-chain-2 : tie.Need-slice-write-chain-2
 slice-write-chain-2 c = search needs
 
--- src/lib.rt:93:1
 same-length : tie.Need-same-length
 same-length c = search needs
 
--- src/lib.rt:93:1
 returns : tie.Need-returns
 unfolding held
 returns c = rw (put-cons, put-cons, put-nil, add-one)

@@ -5,58 +5,44 @@ use Rattle.model.specs.Chain.{descAt, testedBy, tested, tally, held, complete, 
 use borrow.Author.Needs.{needs}
 use Rattle.chain.proofs.judge.Statement.{statement}
 use Rattle.chain.proofs.judge.Tie as tie
-use Rattle.chain.proofs.judge.Reads as reads
-use Rattle.chain.proofs.judge.Lts as lts
-use Rattle.chain.proofs.late.Reads as late-reads
 
--- src/lib.rt:42:9
 returns : tie.Need-returns
 unfolding testedBy
 returns c = search tests
 
--- src/lib.rt:45:9
 returns-2 : tie.Need-returns-2
 unfolding testedBy
 returns-2 c = search tests
 
--- src/lib.rt:48:9
 returns-3 : tie.Need-returns-3
 unfolding testedBy
 returns-3 c = search tests
 
--- src/lib.rt:50:19
 enum-known-found : tie.Need-enum-known-found
 enum-known-found c = search needs
 
--- src/lib.rt:51:9
 enum-told : tie.Need-enum-told
 enum-told c = search needs
 
--- src/lib.rt:51:9
 returns-4 : tie.Need-returns-4
 unfolding testedBy
 returns-4 c = search (tests, c .enum-told .given .1)
 
--- src/lib.rt:53:8
 late-requires : tie.Need-late-requires
 late-requires c κs = search needs
 
--- src/lib.rt:54:9
 returns-5 : tie.Need-returns-5
 unfolding testedBy
 returns-5 c = let a = c .before .before .before .before .before .before .before .before .args in rw (lt-leb (a .q) (a .count) (c .before .before .before .before .before .before .before .if1 .left), le-ltb 3 (a .flags) (c .before .before .before .before .before .before .if2 .left), ne-eqb (a .len) 0 (c .before .before .before .before .before .if3 .left), c .before .before .before .found .given .1, ← (c .before .late .ensures), c .if4 .taken)
 
--- src/lib.rt:57:9
 returns-6 : tie.Need-returns-6
 unfolding testedBy
 returns-6 c = let a = c .before .before .before .before .before .before .before .before .before .args in rw (lt-leb (a .q) (a .count) (c .before .before .before .before .before .before .before .before .if1 .left), le-ltb 3 (a .flags) (c .before .before .before .before .before .before .before .if2 .left), ne-eqb (a .len) 0 (c .before .before .before .before .before .before .if3 .left), c .before .before .before .before .found .given .1, ← (c .before .before .late .ensures), c .before .if4 .left, eq-eqb _ 0 (c .if5 .taken))
 
--- src/lib.rt:60:9
 returns-7 : tie.Need-returns-7
 unfolding testedBy
 returns-7 c = let a = c .before .before .before .before .before .before .before .before .before .before .args in rw (lt-leb (a .q) (a .count) (c .before .before .before .before .before .before .before .before .before .if1 .left), le-ltb 3 (a .flags) (c .before .before .before .before .before .before .before .before .if2 .left), ne-eqb (a .len) 0 (c .before .before .before .before .before .before .before .if3 .left), c .before .before .before .before .before .found .given .1, ← (c .before .before .before .late .ensures), c .before .before .if4 .left, ne-eqb _ 0 (c .before .if5 .left), le-leb (a .q) (a .next) (c .if6 .taken))
 
--- src/lib.rt:38:1
 returns-8 : tie.Need-returns-8
 unfolding testedBy
 returns-8 c = let a = c .before .before .before .before .before .before .before .before .before .before .args in rw (lt-leb (a .q) (a .count) (c .before .before .before .before .before .before .before .before .before .if1 .left), le-ltb 3 (a .flags) (c .before .before .before .before .before .before .before .before .if2 .left), ne-eqb (a .len) 0 (c .before .before .before .before .before .before .before .if3 .left), c .before .before .before .before .before .found .given .1, ← (c .before .before .before .late .ensures), c .before .before .if4 .left, ne-eqb _ 0 (c .before .if5 .left), lt-leb (a .q) (a .next) (c .if6 .left))

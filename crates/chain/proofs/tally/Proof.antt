@@ -3,35 +3,26 @@ use Rattle.model.specs.Chain.{descAt, testedBy, tested, tally, held, complete, 
 use borrow.Author.Needs.{needs}
 use Rattle.chain.proofs.tally.Statement.{statement}
 use Rattle.chain.proofs.tally.Tie as tie
-use Rattle.chain.proofs.tally.Reads as reads
-use Rattle.chain.proofs.tally.Lts as lts
 
--- src/lib.rt:77:20
 add-t5 : tie.Need-add-t5
 add-t5 c = search needs
 
--- src/lib.rt:78:20
 add-t6 : tie.Need-add-t6
 add-t6 c = search needs
 
--- src/lib.rt:79:16
 add-t7 : tie.Need-add-t7
 add-t7 c = search needs
 
--- src/lib.rt:75:9
 returns : tie.Need-returns
 unfolding tally
 returns c = search tests
 
--- src/lib.rt:85:16
 add-t8 : tie.Need-add-t8
 add-t8 c = search needs
 
--- src/lib.rt:88:12
 add-t9 : tie.Need-add-t9
 add-t9 c = search needs
 
--- src/lib.rt:66:1
 returns-2 : tie.Need-returns-2
 unfolding tally
 returns-2 c = search tests

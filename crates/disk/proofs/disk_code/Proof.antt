@@ -5,42 +5,32 @@ use Prim.Native.Nat.{_+_, _*_, _^_}
 use borrow.Author.Needs.{needs}
 use Rattle.disk.proofs.disk_code.Statement.{statement}
 use Rattle.disk.proofs.disk_code.Tie as tie
-use Rattle.disk.proofs.disk_code.Reads as reads
-use Rattle.disk.proofs.disk_code.Lts as lts
 
--- src/lib.rt:14:9
 returns : tie.Need-returns
 unfolding diskCode
 returns c = let a = c .before .args in rw (lt-leb 1 (a .sectors) (omega arith))
 
--- src/lib.rt:17:9
 returns-2 : tie.Need-returns-2
 unfolding diskCode
 returns-2 c = let a = c .before .before .args in rw (le-leb 1 (a .sectors) (omega arith), lt-leb (a .sectors) (2 ^ 32) (omega arith))
 
--- src/lib.rt:19:18
 mul-if3 : tie.Need-mul-if3
 mul-if3 c = search needs
 
--- src/lib.rt:20:9
 returns-3 : tie.Need-returns-3
 unfolding diskCode
 returns-3 c = let a = c .before .before .before .args in rw (le-leb 1 (a .sectors) (omega arith), le-leb (a .sectors) (2 ^ 32) (omega arith), lt-leb (a .start + 512 * a .sectors) (a .backing) (omega arith))
 
--- src/lib.rt:22:18
 mul-if4 : tie.Need-mul-if4
 mul-if4 c = search needs
 
--- src/lib.rt:22:8
 sub-if4 : tie.Need-sub-if4
 sub-if4 c = search needs
 
--- src/lib.rt:23:9
 returns-4 : tie.Need-returns-4
 unfolding diskCode
 returns-4 c = let a = c .before .before .before .before .args in rw (le-leb 1 (a .sectors) (omega arith), le-leb (a .sectors) (2 ^ 32) (omega arith), lt-leb (a .start + 512 * a .sectors) (a .backing) (omega arith))
 
--- src/lib.rt:10:1
 returns-5 : tie.Need-returns-5
 unfolding diskCode
 returns-5 c = let a = c .before .before .before .before .args in rw (le-leb 1 (a .sectors) (omega arith), le-leb (a .sectors) (2 ^ 32) (omega arith), le-leb (a .start + 512 * a .sectors) (a .backing) (omega arith))

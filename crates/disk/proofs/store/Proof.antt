@@ -7,27 +7,19 @@ use mathlib.Core.Path.{_≡_}
 use borrow.Author.Needs.{needs}
 use Rattle.disk.proofs.store.Statement.{statement}
 use Rattle.disk.proofs.store.Tie as tie
-use Rattle.disk.proofs.store.Reads as reads
-use Rattle.disk.proofs.store.Lts as lts
-use Rattle.moves.proofs.copy.Reads as copy-reads
 
--- src/lib.rt:35:5
 copy-requires : tie.Need-copy-requires
 copy-requires c κs = search needs
 
--- src/lib.rt:36:37
 add-copy : tie.Need-add-copy
 add-copy c = search needs
 
--- src/lib.rt:36:5
 copy-requires-2 : tie.Need-copy-requires-2
 copy-requires-2 c κs = search needs
 
--- src/lib.rt:29:1
 same-length : tie.Need-same-length
 same-length c = search needs
 
--- src/lib.rt:29:1
 returns : tie.Need-returns
 returns c = let a = c .before .before .before .before .before .before .before .before .before .before .before .args in let x = part 0 (a .got) (now (a .stage)) in let e : length x ≡ a .got = length-part 0 (a .got) (now (a .stage)) (omega (arith, c .before .before .before .before .before .before .before .before .before .before .before .pre)) in rw (c .before .before .copy2 .ensures, c .before .before .before .before .before .before .copy .ensures) (rw e at (put-put (now (a .backing)) (a .at) x (part (a .from) (a .n) (now (a .mem)))))
 

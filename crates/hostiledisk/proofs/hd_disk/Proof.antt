@@ -4,70 +4,51 @@ use mathlib.Core.Path.{_≡_, refl, sym, _∙_, ap}
 use borrow.Author.Needs.{needs}
 use Rattle.hostiledisk.proofs.hd_disk.Statement.{statement}
 use Rattle.hostiledisk.proofs.hd_disk.Tie as tie
-use Rattle.hostiledisk.proofs.hd_disk.Reads as reads
-use Rattle.hostiledisk.proofs.hd_disk.Lts as lts
-use Rattle.disk.proofs.disk_code.Reads as disk-code-reads
-use Rattle.hostiledisk.proofs.set_up.note_disk.Reads as note-disk-reads
-use Rattle.words.proofs.level.Reads as level-reads
 
--- src/lib.rt:71:9
 returns : tie.Need-returns
 unfolding hdDisk
 returns c = (rw (lt-ltb _ 52 (c .if1 .taken)), rw (lt-ltb _ 52 (c .if1 .taken)))
 
--- src/lib.rt:73:9
 level-requires : tie.Need-level-requires
 level-requires c κs = search needs
 
--- src/lib.rt:75:9
 same-length : tie.Need-same-length
 same-length c = search needs
 
--- src/lib.rt:75:9
 returns-2 : tie.Need-returns-2
 unfolding hdDisk
 returns-2 c = (rw (le-ltb _ 52 (c .before .before .before .if1 .left), ← (c .before .level .ensures), lt-leb 1 _ (c .if2 .taken)), rw (le-ltb _ 52 (c .before .before .before .if1 .left), ← (c .before .level .ensures), lt-leb 1 _ (c .if2 .taken)))
 
--- src/lib.rt:78:9
 same-length-2 : tie.Need-same-length-2
 same-length-2 c = search needs
 
--- src/lib.rt:78:9
 returns-3 : tie.Need-returns-3
 unfolding hdDisk
 returns-3 c = (rw (le-ltb _ 52 (c .before .before .before .before .if1 .left), ← (c .before .before .level .ensures), le-leb 1 _ (c .before .if2 .left), lt-leb _ 2 (c .if3 .taken)), rw (le-ltb _ 52 (c .before .before .before .before .if1 .left), ← (c .before .before .level .ensures), le-leb 1 _ (c .before .if2 .left), lt-leb _ 2 (c .if3 .taken)))
 
--- src/lib.rt:81:9
 same-length-3 : tie.Need-same-length-3
 same-length-3 c = search needs
 
--- src/lib.rt:81:9
 returns-4 : tie.Need-returns-4
 unfolding hdDisk
 returns-4 c = (rw (le-ltb _ 52 (c .before .before .before .before .before .if1 .left), ← (c .before .before .before .level .ensures), le-leb 1 _ (c .before .before .if2 .left), le-leb _ 2 (c .before .if3 .left), ne-eqb _ 20 (c .if4 .taken)), rw (le-ltb _ 52 (c .before .before .before .before .before .if1 .left), ← (c .before .before .before .level .ensures), le-leb 1 _ (c .before .before .if2 .left), le-leb _ 2 (c .before .if3 .left), ne-eqb _ 20 (c .if4 .taken)))
 
--- src/lib.rt:83:9
 disk-code-requires : tie.Need-disk-code-requires
 disk-code-requires c κs = search needs
 
--- src/lib.rt:85:9
 same-length-4 : tie.Need-same-length-4
 same-length-4 c = search needs
 
--- src/lib.rt:85:9
 returns-5 : tie.Need-returns-5
 unfolding hdDisk
 returns-5 c = (rw (le-ltb _ 52 (c .before .before .before .before .before .before .before .if1 .left), ← (c .before .before .before .before .before .level .ensures), le-leb 1 _ (c .before .before .before .before .if2 .left), le-leb _ 2 (c .before .before .before .if3 .left), eq-eqb _ 20 (c .before .before .if4 .left), ← (c .before .disk-code .ensures), ne-eqb _ 0 (c .if5 .taken)), rw (le-ltb _ 52 (c .before .before .before .before .before .before .before .if1 .left), ← (c .before .before .before .before .before .level .ensures), le-leb 1 _ (c .before .before .before .before .if2 .left), le-leb _ 2 (c .before .before .before .if3 .left), eq-eqb _ 20 (c .before .before .if4 .left), ← (c .before .disk-code .ensures), ne-eqb _ 0 (c .if5 .taken)))
 
--- src/lib.rt:87:5
 note-disk-requires : tie.Need-note-disk-requires
 note-disk-requires c κs = search needs
 
--- src/lib.rt:65:1
 same-length-5 : tie.Need-same-length-5
 same-length-5 c = search needs
 
--- src/lib.rt:65:1
 returns-6 : tie.Need-returns-6
 unfolding hdDisk
 returns-6 c = (rw (le-ltb _ 52 (c .before .before .before .before .before .before .before .before .before .before .before .if1 .left), ← (c .before .before .before .before .before .before .before .before .before .level .ensures), le-leb 1 _ (c .before .before .before .before .before .before .before .before .if2 .left), le-leb _ 2 (c .before .before .before .before .before .before .before .if3 .left), eq-eqb _ 20 (c .before .before .before .before .before .before .if4 .left), ← (c .before .before .before .before .before .disk-code .ensures), eq-eqb _ 0 (c .before .before .before .before .if5 .left)), rw (le-ltb _ 52 (c .before .before .before .before .before .before .before .before .before .before .before .if1 .left), ← (c .before .before .before .before .before .before .before .before .before .level .ensures), le-leb 1 _ (c .before .before .before .before .before .before .before .before .if2 .left), le-leb _ 2 (c .before .before .before .before .before .before .before .if3 .left), eq-eqb _ 20 (c .before .before .before .before .before .before .if4 .left), ← (c .before .before .before .before .before .disk-code .ensures), eq-eqb _ 0 (c .before .before .before .before .if5 .left)) (c .before .before .note-disk .ensures))

@@ -5,43 +5,30 @@ use Rattle.hostiledisk.proofs.Laws.{memory-few, level-two, level-three,
 use borrow.Author.Needs.{needs}
 use Rattle.hostiledisk.proofs.hd_enable_at.Statement.{statement}
 use Rattle.hostiledisk.proofs.hd_enable_at.Tie as tie
-use Rattle.hostiledisk.proofs.hd_enable_at.Reads as reads
-use Rattle.hostiledisk.proofs.hd_enable_at.Lts as lts
-use Rattle.hostiledisk.proofs.set_up.areas.Reads as areas-reads
-use Rattle.hostiledisk.proofs.set_up.enable.Reads as enable-reads
-use Rattle.words.proofs.level.Reads as level-reads
 
--- src/lib.rt:97:9
 returns : tie.Need-returns
 unfolding hdEnableAt
 returns c = (rw (lt-ltb _ 52 (c .if1 .taken)), rw (lt-ltb _ 52 (c .if1 .taken)))
 
--- src/lib.rt:99:8
 level-requires : tie.Need-level-requires
 level-requires c κs = search needs
 
--- src/lib.rt:100:9
 same-length : tie.Need-same-length
 same-length c = search needs
 
--- src/lib.rt:100:9
 returns-2 : tie.Need-returns-2
 unfolding hdEnableAt
 returns-2 c = (rw (le-ltb _ 52 (c .before .before .before .if1 .left), ← (c .before .level .ensures), ne-eqb _ 2 (c .if2 .taken)), rw (le-ltb _ 52 (c .before .before .before .if1 .left), ← (c .before .level .ensures), ne-eqb _ 2 (c .if2 .taken)))
 
--- src/lib.rt:102:9
 areas-requires : tie.Need-areas-requires
 areas-requires c κs = (c .before .before .before .before .if1 .left, level-two _ (sym (c .before .before .level .ensures) ∙ c .before .if2 .left))
 
--- src/lib.rt:103:5
 enable-requires : tie.Need-enable-requires
 enable-requires c κs = search needs
 
--- src/lib.rt:91:1
 same-length-2 : tie.Need-same-length-2
 same-length-2 c = search needs
 
--- src/lib.rt:91:1
 returns-3 : tie.Need-returns-3
 unfolding hdEnableAt
 returns-3 c = let u = eq-eqb _ 2 (c .before .before .before .before .before .before .if2 .left) in (rw (le-ltb _ 52 (c .before .before .before .before .before .before .before .before .before .if1 .left), ← (c .before .before .before .before .before .before .before .level .ensures), u, ← (c .before .before .before .before .areas .ensures)) (c .before .before .enable .ensures .0), rw (le-ltb _ 52 (c .before .before .before .before .before .before .before .before .before .if1 .left), ← (c .before .before .before .before .before .before .before .level .ensures), u, ← (c .before .before .before .before .areas .ensures)) (c .before .before .enable .ensures .1))

@@ -5,34 +5,24 @@ use Rattle.hostiledisk.proofs.Laws.{memory-few, level-two, level-three,
 use borrow.Author.Needs.{needs}
 use Rattle.hostiledisk.proofs.hd_memory.Statement.{statement}
 use Rattle.hostiledisk.proofs.hd_memory.Tie as tie
-use Rattle.hostiledisk.proofs.hd_memory.Reads as reads
-use Rattle.hostiledisk.proofs.hd_memory.Lts as lts
-use Rattle.hostiledisk.proofs.set_up.note_memory.Reads as note-memory-reads
-use Rattle.regions.proofs.memory_code.Reads as memory-code-reads
 
--- src/lib.rt:55:9
 returns : tie.Need-returns
 unfolding hdMemory
 returns c = let t = lt-ltb _ 52 (c .if1 .taken) in (rw t, rw t)
 
--- src/lib.rt:57:9
 memory-code-requires : tie.Need-memory-code-requires
 memory-code-requires c κs = search needs
 
--- src/lib.rt:59:9
 returns-2 : tie.Need-returns-2
 unfolding hdMemory
 returns-2 c = let t = le-ltb _ 52 (c .before .before .if1 .left) in let e = c .before .memory-code .ensures in let u = ne-eqb _ 0 (c .if2 .taken) in (rw (t, ← e, u), rw (t, ← e, u))
 
--- src/lib.rt:61:5
 note-memory-requires : tie.Need-note-memory-requires
 note-memory-requires c κs = (c .before .before .before .if1 .left, memory-few _ _ (sym (c .before .before .memory-code .ensures) ∙ c .before .if2 .left))
 
--- src/lib.rt:49:1
 same-length : tie.Need-same-length
 same-length c = search needs
 
--- src/lib.rt:49:1
 returns-3 : tie.Need-returns-3
 unfolding hdMemory
 returns-3 c = let t = le-ltb _ 52 (c .before .before .before .before .before .before .if1 .left) in let e = c .before .before .before .before .before .memory-code .ensures in let u = eq-eqb _ 0 (c .before .before .before .before .if2 .left) in (rw (t, ← e, u), rw (t, ← e, u) (c .before .before .note-memory .ensures))

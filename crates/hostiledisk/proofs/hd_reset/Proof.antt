@@ -4,37 +4,27 @@ use mathlib.Core.Path.{_≡_, refl, sym, _∙_, ap}
 use borrow.Author.Needs.{needs}
 use Rattle.hostiledisk.proofs.hd_reset.Statement.{statement}
 use Rattle.hostiledisk.proofs.hd_reset.Tie as tie
-use Rattle.hostiledisk.proofs.hd_reset.Reads as reads
-use Rattle.hostiledisk.proofs.hd_reset.Lts as lts
-use Rattle.words.proofs.level.Reads as level-reads
 
--- src/lib.rt:120:9
 returns : tie.Need-returns
 unfolding hdReset
 returns c = (rw (lt-ltb _ 52 (c .if1 .taken)), rw (lt-ltb _ 52 (c .if1 .taken)))
 
--- src/lib.rt:122:8
 level-requires : tie.Need-level-requires
 level-requires c κs = search needs
 
--- src/lib.rt:123:9
 slice-write-state : tie.Need-slice-write-state
 slice-write-state c = search needs
 
--- src/lib.rt:124:9
 same-length : tie.Need-same-length
 same-length c = search needs
 
--- src/lib.rt:124:9
 returns-2 : tie.Need-returns-2
 unfolding hdReset
 returns-2 c = (rw (le-ltb _ 52 (c .before .before .before .if1 .left)), rw (le-ltb _ 52 (c .before .before .before .if1 .left), ← (c .before .level .ensures), eq-eqb _ 3 (c .if2 .taken)))
 
--- src/lib.rt:114:1
 same-length-2 : tie.Need-same-length-2
 same-length-2 c = search needs
 
--- src/lib.rt:114:1
 returns-3 : tie.Need-returns-3
 unfolding hdReset
 returns-3 c = (rw (le-ltb _ 52 (c .before .before .before .if1 .left)), rw (le-ltb _ 52 (c .before .before .before .if1 .left), ← (c .before .level .ensures), ne-eqb _ 3 (c .if2 .left)))

@@ -3,29 +3,21 @@ use Rattle.hostiledisk.specs.Calls.{chainWords, hdMemory, flag, diskSet,
 use borrow.Author.Needs.{needs}
 use Rattle.hostiledisk.proofs.hd_status.Statement.{statement}
 use Rattle.hostiledisk.proofs.hd_status.Tie as tie
-use Rattle.hostiledisk.proofs.hd_status.Reads as reads
-use Rattle.hostiledisk.proofs.hd_status.Lts as lts
-use Rattle.hostiledisk.proofs.status.write.Reads as write-reads
 
--- src/lib.rt:135:9
 returns : tie.Need-returns
 unfolding hdStatus
 returns c = (rw (lt-ltb _ 52 (c .if1 .taken)), rw (lt-ltb _ 52 (c .if1 .taken)))
 
--- src/lib.rt:138:9
 returns-2 : tie.Need-returns-2
 unfolding hdStatus
 returns-2 c = (rw (le-ltb _ 52 (c .before .if1 .left), lt-ltb _ 8 (c .if2 .taken)), rw (le-ltb _ 52 (c .before .if1 .left), lt-ltb _ 8 (c .if2 .taken)))
 
--- src/lib.rt:140:5
 write-requires : tie.Need-write-requires
 write-requires c κs = search needs
 
--- src/lib.rt:129:1
 same-length : tie.Need-same-length
 same-length c = search needs
 
--- src/lib.rt:129:1
 returns-3 : tie.Need-returns-3
 unfolding hdStatus
 returns-3 c = (rw (le-ltb _ 52 (c .before .before .before .before .before .if1 .left), le-ltb _ 8 (c .before .before .before .before .if2 .left)), rw (le-ltb _ 52 (c .before .before .before .before .before .if1 .left), le-ltb _ 8 (c .before .before .before .before .if2 .left)) (c .before .before .write .ensures))

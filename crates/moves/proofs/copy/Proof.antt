@@ -1,3 +1,4 @@
+-- After i turns the first i bytes of the source's part stand in the destination's.
 use native.Mathlib.Omega.{arith}
 use borrow.Author.Needs.{needs}
 use Prim.Native.Nat.{_≤_, _+_, _-_}
@@ -9,8 +10,6 @@ use Rattle.model.specs.Bytes.{put, part}
 use Rattle.model.proofs.Lists.{put-nil, put-copy, part-zero}
 use Rattle.moves.proofs.copy.Statement.{statement}
 use Rattle.moves.proofs.copy.Tie as tie
-use Rattle.moves.proofs.copy.Reads as reads
-use Rattle.moves.proofs.copy.Lts as lts
 
 abbrev Inv-loop : tie.InvT-loop
 Inv-loop src from dst₀ to n i₀ dst i = (i ≤ n) × (length dst ≡ length dst₀) × (dst ≡ put dst₀ to (part from i src))
@@ -18,43 +17,33 @@ Inv-loop src from dst₀ to n i₀ dst i = (i ≤ n) × (length dst ≡ length d
 abbrev μ-loop : tie.MeasureT-loop
 μ-loop src from dst₀ to n i₀ dst i = n - i
 
--- src/lib.rt:14:5
 loop-holds : tie.Need-loop-holds Inv-loop μ-loop
 loop-holds c = (search needs, refl, simp (part-zero, put-nil))
 
--- src/lib.rt:15:27
 add-dst : tie.Need-add-dst Inv-loop μ-loop
 add-dst c = search needs
 
--- src/lib.rt:15:23
 shared-slice-read-dst : tie.Need-shared-slice-read-dst Inv-loop μ-loop
 shared-slice-read-dst c = search needs
 
--- src/lib.rt:15:13
 add-dst-2 : tie.Need-add-dst-2 Inv-loop μ-loop
 add-dst-2 c = search needs
 
--- src/lib.rt:15:9
 slice-write-dst : tie.Need-slice-write-dst Inv-loop μ-loop
 slice-write-dst c = search needs
 
--- src/lib.rt:16:9
 add-i : tie.Need-add-i Inv-loop μ-loop
 add-i c = search needs
 
--- src/lib.rt:14:5
 loop-less : tie.Need-loop-less Inv-loop μ-loop
 loop-less c = search needs
 
--- src/lib.rt:14:5
 loop-again : tie.Need-loop-again Inv-loop μ-loop
 loop-again c = let a = c .before .before .before .args in (search needs, simp length-set (omega arith), rw (c .before .before .loop .inv .2, add-one) (put-copy (now (a .dst)) (a .to) (now (a .src)) (a .from) (c .before .before .loop .i) (omega arith)))
 
--- src/lib.rt:8:1
 same-length : tie.Need-same-length Inv-loop μ-loop
 same-length c = search needs
 
--- src/lib.rt:8:1
 returns : tie.Need-returns Inv-loop μ-loop
 returns c = let e : c .before .loop .i ≡ c .before .before .args .n = omega arith in rw e at (c .before .loop .inv .2)
 

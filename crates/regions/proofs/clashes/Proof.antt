@@ -1,3 +1,4 @@
+-- The rest of the words has the whole list's answer: a region that overlaps ends the loop, the others are passed over.
 use Prim.Native.Nat.{_≤_, _+_, _-_, _%_}
 use mathlib.Core.Path.{_≡_, refl, sym, _∙_}
 use mathlib.Core.Bool.{true, false}
@@ -8,9 +9,6 @@ use Rattle.model.specs.Memory.{regions, clash}
 use Rattle.model.proofs.Memory.{clash-turn, clash-none}
 use Rattle.regions.proofs.clashes.Statement.{statement}
 use Rattle.regions.proofs.clashes.Tie as tie
-use Rattle.regions.proofs.clashes.Reads as reads
-use Rattle.regions.proofs.clashes.Lts as lts
-use Rattle.regions.proofs.overlaps.Reads as overlaps-reads
 
 abbrev Inv-loop : tie.InvT-loop
 Inv-loop seen g l i₀ i = (i ≤ length seen + 2) × (clash (regions seen) g l ≡ clash (regions (drop i seen)) g l)
@@ -18,55 +16,42 @@ Inv-loop seen g l i₀ i = (i ≤ length seen + 2) × (clash (regions seen) g l 
 abbrev μ-loop : tie.MeasureT-loop
 μ-loop seen g l i₀ i = length seen + 2 - i
 
--- src/lib.rt:45:5
 loop-holds : tie.Need-loop-holds Inv-loop μ-loop
 loop-holds c = search needs
 
--- src/lib.rt:45:11
 add-loop : tie.Need-add-loop Inv-loop μ-loop
 add-loop c = search needs
 
--- src/lib.rt:46:27
 mul-overlaps : tie.Need-mul-overlaps Inv-loop μ-loop
 mul-overlaps c = search needs
 
--- src/lib.rt:46:27
 shared-slice-read-overlaps : tie.Need-shared-slice-read-overlaps Inv-loop μ-loop
 shared-slice-read-overlaps c = search needs
 
--- src/lib.rt:46:41
 add-overlaps : tie.Need-add-overlaps Inv-loop μ-loop
 add-overlaps c = search needs
 
--- src/lib.rt:46:36
 mul-overlaps-2 : tie.Need-mul-overlaps-2 Inv-loop μ-loop
 mul-overlaps-2 c = search needs
 
--- src/lib.rt:46:36
 shared-slice-read-overlaps-2 : tie.Need-shared-slice-read-overlaps-2 Inv-loop μ-loop
 shared-slice-read-overlaps-2 c = search needs
 
--- src/lib.rt:46:12
 overlaps-requires : tie.Need-overlaps-requires Inv-loop μ-loop
 overlaps-requires c κs = search needs
 
--- src/lib.rt:47:13
 returns : tie.Need-returns Inv-loop μ-loop
 returns c = sym (c .before .before .before .before .before .loop .inv .1 ∙ rw (clash-turn _ _ _ _ (c .before .before .before .before .loop-test .taken), ← (c .before .overlaps .ensures), c .if1 .taken))
 
--- src/lib.rt:49:9
 add-i : tie.Need-add-i Inv-loop μ-loop
 add-i c = search needs
 
--- src/lib.rt:45:5
 loop-less : tie.Need-loop-less Inv-loop μ-loop
 loop-less c = search needs
 
--- src/lib.rt:45:5
 loop-again : tie.Need-loop-again Inv-loop μ-loop
 loop-again c = (search needs, c .before .before .before .before .before .loop .inv .1 ∙ rw (clash-turn _ _ _ _ (c .before .before .before .before .loop-test .taken), ← (c .before .overlaps .ensures), c .if1 .left))
 
--- src/lib.rt:41:1
 returns-2 : tie.Need-returns-2 Inv-loop μ-loop
 returns-2 c = sym (c .before .loop .inv .1 ∙ clash-none _ _ _ _ (c .loop-test .left))
 

@@ -4,30 +4,23 @@ use native.Mathlib.Omega.{arith}
 use Rattle.model.specs.Memory.{regionCode, overlap, contains}
 use Rattle.regions.proofs.holds.Statement.{statement}
 use Rattle.regions.proofs.holds.Tie as tie
-use Rattle.regions.proofs.holds.Reads as reads
-use Rattle.regions.proofs.holds.Lts as lts
 
--- src/lib.rt:105:9
 returns : tie.Need-returns
 unfolding contains
 returns c = let a = c .before .args in rw (lt-leb 1 (a .n) (omega arith))
 
--- src/lib.rt:108:9
 returns-2 : tie.Need-returns-2
 unfolding contains
 returns-2 c = let a = c .before .before .args in rw (le-leb 1 (a .n) (omega arith), lt-leb (a .g) (a .a) (omega arith))
 
--- src/lib.rt:111:9
 returns-3 : tie.Need-returns-3
 unfolding contains
 returns-3 c = let a = c .before .before .before .args in rw (le-leb 1 (a .n) (omega arith), le-leb (a .g) (a .a) (omega arith), lt-leb (a .a + a .n) (a .g + a .l) (omega arith))
 
--- src/lib.rt:114:9
 returns-4 : tie.Need-returns-4
 unfolding contains
 returns-4 c = let a = c .before .before .before .before .args in rw (le-leb 1 (a .n) (omega arith), le-leb (a .g) (a .a) (omega arith), lt-leb (a .a + a .n) (a .g + a .l) (omega arith))
 
--- src/lib.rt:101:1
 returns-5 : tie.Need-returns-5
 unfolding contains
 returns-5 c = let a = c .before .before .before .before .args in rw (le-leb 1 (a .n) (omega arith), le-leb (a .g) (a .a) (omega arith), le-leb (a .a + a .n) (a .g + a .l) (omega arith))

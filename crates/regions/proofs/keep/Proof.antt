@@ -1,3 +1,4 @@
+-- After i turns the first i words stand in place.
 use native.Mathlib.Numerals.{add-one}
 use native.Mathlib.Nat.{zero-add}
 use denote.Ref.{now}
@@ -10,8 +11,6 @@ use Rattle.model.specs.Bytes.{put, part}
 use Rattle.model.proofs.Lists.{put-nil, put-copy, part-zero, part-all}
 use Rattle.regions.proofs.keep.Statement.{statement}
 use Rattle.regions.proofs.keep.Tie as tie
-use Rattle.regions.proofs.keep.Reads as reads
-use Rattle.regions.proofs.keep.Lts as lts
 
 abbrev Inv-loop : tie.InvT-loop
 Inv-loop held₀ at words i₀ held i = (i ≤ length words) × (length held ≡ length held₀) × (held ≡ put held₀ at (part 0 i words))
@@ -19,47 +18,36 @@ Inv-loop held₀ at words i₀ held i = (i ≤ length words) × (length held ≡
 abbrev μ-loop : tie.MeasureT-loop
 μ-loop held₀ at words i₀ held i = length words - i
 
--- src/lib.rt:141:5
 loop-holds : tie.Need-loop-holds Inv-loop μ-loop
 loop-holds c = (search needs, refl, simp (part-zero, put-nil))
 
--- src/lib.rt:142:24
 mul-held : tie.Need-mul-held Inv-loop μ-loop
 mul-held c = search needs
 
--- src/lib.rt:142:24
 shared-slice-read-held : tie.Need-shared-slice-read-held Inv-loop μ-loop
 shared-slice-read-held c = search needs
 
--- src/lib.rt:142:14
 add-held : tie.Need-add-held Inv-loop μ-loop
 add-held c = search needs
 
--- src/lib.rt:142:9
 mul-held-2 : tie.Need-mul-held-2 Inv-loop μ-loop
 mul-held-2 c = search needs
 
--- src/lib.rt:142:9
 slice-write-held : tie.Need-slice-write-held Inv-loop μ-loop
 slice-write-held c = search needs
 
--- src/lib.rt:143:9
 add-i : tie.Need-add-i Inv-loop μ-loop
 add-i c = search needs
 
--- src/lib.rt:141:5
 loop-less : tie.Need-loop-less Inv-loop μ-loop
 loop-less c = search needs
 
--- src/lib.rt:141:5
 loop-again : tie.Need-loop-again Inv-loop μ-loop
 loop-again c = let a = c .before .before .before .args in let i = c .before .before .loop .i in let e = put-copy (now (a .held)) (a .at) (now (a .words)) 0 i (omega arith) in (search needs, simp length-set (omega arith), rw (c .before .before .loop .inv .2, add-one) (rw zero-add at e))
 
--- src/lib.rt:136:1
 same-length : tie.Need-same-length Inv-loop μ-loop
 same-length c = search needs
 
--- src/lib.rt:136:1
 returns : tie.Need-returns Inv-loop μ-loop
 returns c = let e : c .before .loop .i ≡ length (now (c .before .before .args .words)) = omega arith in rw (part-all) at (rw e at (c .before .loop .inv .2))
 

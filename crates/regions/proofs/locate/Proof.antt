@@ -1,3 +1,4 @@
+-- The rest of the words has the whole map's answer, and is sound: the first region that contains the range ends the loop.
 use Rattle.model.specs.Memory.{region}
 use Prim.Native.Nat.{_≤_, _+_, _-_, _%_}
 use mathlib.Core.Path.{_≡_, refl, sym, _∙_}
@@ -9,9 +10,6 @@ use Rattle.model.specs.Memory.{regions, sound, locate}
 use Rattle.model.proofs.Memory.{locate-hit, locate-miss, locate-none, sound-turn, region-sound, contains-within}
 use Rattle.regions.proofs.locate.Statement.{statement}
 use Rattle.regions.proofs.locate.Tie as tie
-use Rattle.regions.proofs.locate.Reads as reads
-use Rattle.regions.proofs.locate.Lts as lts
-use Rattle.regions.proofs.holds.Reads as holds-reads
 
 abbrev Inv-loop : tie.InvT-loop
 Inv-loop map m a n i₀ i = (i ≤ length map + 2) × (locate (regions map) a n ≡ locate (regions (drop i map)) a n) × (sound m (regions (drop i map)) ≡ true)
@@ -19,75 +17,57 @@ Inv-loop map m a n i₀ i = (i ≤ length map + 2) × (locate (regions map) a n 
 abbrev μ-loop : tie.MeasureT-loop
 μ-loop map m a n i₀ i = length map + 2 - i
 
--- src/lib.rt:117:5
 loop-holds : tie.Need-loop-holds Inv-loop μ-loop
 loop-holds c = (search needs, refl, c .before .pre)
 
--- src/lib.rt:117:11
 add-loop : tie.Need-add-loop Inv-loop μ-loop
 add-loop c = search needs
 
--- src/lib.rt:118:17
 mul-g : tie.Need-mul-g Inv-loop μ-loop
 mul-g c = search needs
 
--- src/lib.rt:118:17
 shared-slice-read-g : tie.Need-shared-slice-read-g Inv-loop μ-loop
 shared-slice-read-g c = search needs
 
--- src/lib.rt:119:25
 add-holds : tie.Need-add-holds Inv-loop μ-loop
 add-holds c = search needs
 
--- src/lib.rt:119:21
 mul-holds : tie.Need-mul-holds Inv-loop μ-loop
 mul-holds c = search needs
 
--- src/lib.rt:119:21
 shared-slice-read-holds : tie.Need-shared-slice-read-holds Inv-loop μ-loop
 shared-slice-read-holds c = search needs
 
--- src/lib.rt:119:12
 holds-requires : tie.Need-holds-requires Inv-loop μ-loop
 holds-requires c κs = search needs
 
--- src/lib.rt:120:34
 add-t14 : tie.Need-add-t14 Inv-loop μ-loop
 add-t14 c = search needs
 
--- src/lib.rt:120:30
 mul-t15 : tie.Need-mul-t15 Inv-loop μ-loop
 mul-t15 c = search needs
 
--- src/lib.rt:120:30
 shared-slice-read-t17 : tie.Need-shared-slice-read-t17 Inv-loop μ-loop
 shared-slice-read-t17 c = search needs
 
--- src/lib.rt:120:44
 sub-t18 : tie.Need-sub-t18 Inv-loop μ-loop
 sub-t18 c = contains-within (region _ _ 0) _ _ (sym (c .before .before .holds .ensures) ∙ c .before .if1 .taken) .from
 
--- src/lib.rt:120:30
 add-t19 : tie.Need-add-t19 Inv-loop μ-loop
 add-t19 c = let s = region-sound _ _ (sound-turn _ _ _ (c .before .before .before .before .before .loop-test .taken) (c .before .before .before .before .before .before .loop .inv .2) .0) in let w = contains-within (region _ _ 0) _ _ (sym (c .before .before .holds .ensures) ∙ c .before .if1 .taken) in omega (arith, s .inside, w .to, w .some)
 
--- src/lib.rt:120:13
 returns : tie.Need-returns Inv-loop μ-loop
 returns c = sym (c .before .before .before .before .before .before .loop .inv .1 ∙ locate-hit _ _ _ _ (c .before .before .before .before .before .loop-test .taken) (sym (c .before .before .holds .ensures) ∙ c .before .if1 .taken))
 
--- src/lib.rt:122:9
 add-i : tie.Need-add-i Inv-loop μ-loop
 add-i c = search needs
 
--- src/lib.rt:117:5
 loop-less : tie.Need-loop-less Inv-loop μ-loop
 loop-less c = search needs
 
--- src/lib.rt:117:5
 loop-again : tie.Need-loop-again Inv-loop μ-loop
 loop-again c = (search needs, c .before .before .before .before .before .loop .inv .1 ∙ locate-miss _ _ _ _ (c .before .before .before .before .loop-test .taken) (sym (c .before .holds .ensures) ∙ c .if1 .left), sound-turn _ _ _ (c .before .before .before .before .loop-test .taken) (c .before .before .before .before .before .loop .inv .2) .1)
 
--- src/lib.rt:112:1
 returns-2 : tie.Need-returns-2 Inv-loop μ-loop
 returns-2 c = sym (c .before .loop .inv .1 ∙ locate-none _ _ _ _ (c .loop-test .left))
 

@@ -1,3 +1,4 @@
+-- The regions before i are seen and the others to come: `codeFrom` at i is the answer, and a refusal of the region at i is it.
 use Rattle.model.specs.Memory.{regionCode, clash}
 use lib.Seq.{length-take-le}
 use Prim.Native.Nat.{_≤_, _+_, _-_, _%_, _/_}
@@ -12,10 +13,6 @@ use borrow.Author.Tests.{ne-eqb, eq-eqb, lt-ltb, le-ltb, le-leb, lt-leb}
 use denote.Ref.{now}
 use Rattle.regions.proofs.memory_code.Statement.{statement}
 use Rattle.regions.proofs.memory_code.Tie as tie
-use Rattle.regions.proofs.memory_code.Reads as reads
-use Rattle.regions.proofs.memory_code.Lts as lts
-use Rattle.regions.proofs.clashes.Reads as clashes-reads
-use Rattle.regions.proofs.region_code.Reads as region-code-reads
 
 abbrev Inv-loop : tie.InvT-loop
 Inv-loop m map i₀ i = (i ≤ length map + 2) × (i % 3 ≡ 0) × (memoryCode m map ≡ codeFrom m map i)
@@ -23,115 +20,88 @@ Inv-loop m map i₀ i = (i ≤ length map + 2) × (i % 3 ≡ 0) × (memoryCode m
 abbrev μ-loop : tie.MeasureT-loop
 μ-loop m map i₀ i = length map + 2 - i
 
--- src/lib.rt:59:9
 returns : tie.Need-returns Inv-loop μ-loop
 unfolding memoryCode
 returns c = let l = length (now (c .before .before .args .map)) in rw (ne-eqb (l % 3) 0 (c .if1 .taken))
 
--- src/lib.rt:62:9
 returns-2 : tie.Need-returns-2 Inv-loop μ-loop
 unfolding memoryCode
 returns-2 c = let l = length (now (c .before .before .before .args .map)) in rw (eq-eqb (l % 3) 0 (c .before .if1 .left), lt-leb 1 (l / 3) (omega arith))
 
--- src/lib.rt:65:9
 returns-3 : tie.Need-returns-3 Inv-loop μ-loop
 unfolding memoryCode
 returns-3 c = let l = length (now (c .before .before .before .before .args .map)) in rw (eq-eqb (l % 3) 0 (c .before .before .if1 .left), le-leb 1 (l / 3) (omega arith), lt-leb (l / 3) 8 (omega arith))
 
--- src/lib.rt:68:5
 loop-holds : tie.Need-loop-holds Inv-loop μ-loop
 unfolding memoryCode regions
 loop-holds c = let l = length (now (c .before .before .before .before .args .map)) in (search needs, refl, rw (eq-eqb (l % 3) 0 (c .before .before .if1 .left), le-leb 1 (l / 3) (omega arith), le-leb (l / 3) 8 (omega arith)))
 
--- src/lib.rt:68:11
 add-loop : tie.Need-add-loop Inv-loop μ-loop
 add-loop c = search needs
 
--- src/lib.rt:69:35
 mul-region-code : tie.Need-mul-region-code Inv-loop μ-loop
 mul-region-code c = search needs
 
--- src/lib.rt:69:35
 shared-slice-read-region-code : tie.Need-shared-slice-read-region-code Inv-loop μ-loop
 shared-slice-read-region-code c = search needs
 
--- src/lib.rt:69:47
 add-region-code : tie.Need-add-region-code Inv-loop μ-loop
 add-region-code c = search needs
 
--- src/lib.rt:69:43
 mul-region-code-2 : tie.Need-mul-region-code-2 Inv-loop μ-loop
 mul-region-code-2 c = search needs
 
--- src/lib.rt:69:43
 shared-slice-read-region-code-2 : tie.Need-shared-slice-read-region-code-2 Inv-loop μ-loop
 shared-slice-read-region-code-2 c = search needs
 
--- src/lib.rt:69:59
 add-region-code-2 : tie.Need-add-region-code-2 Inv-loop μ-loop
 add-region-code-2 c = search needs
 
--- src/lib.rt:69:55
 mul-region-code-3 : tie.Need-mul-region-code-3 Inv-loop μ-loop
 mul-region-code-3 c = search needs
 
--- src/lib.rt:69:55
 shared-slice-read-region-code-3 : tie.Need-shared-slice-read-region-code-3 Inv-loop μ-loop
 shared-slice-read-region-code-3 c = search needs
 
--- src/lib.rt:69:13
 region-code-requires : tie.Need-region-code-requires Inv-loop μ-loop
 region-code-requires c κs = search needs
 
--- src/lib.rt:71:13
 returns-4 : tie.Need-returns-4 Inv-loop μ-loop
 returns-4 c = sym (c .before .before .before .before .before .before .loop .inv .2 ∙ rw (code-turn _ _ _ (c .before .before .before .before .before .before .loop .inv .1) (c .before .before .before .before .before .loop-test .taken), ← (c .before .region-code .ensures), ne-eqb (c .before .region-code .result) 0 (c .if4 .taken)))
 
--- src/lib.rt:73:20
 slice-aggregate-clashes : tie.Need-slice-aggregate-clashes Inv-loop μ-loop
 slice-aggregate-clashes c = sym (length-take-le _ _ (omega arith))
 
--- src/lib.rt:73:31
 mul-clashes : tie.Need-mul-clashes Inv-loop μ-loop
 mul-clashes c = search needs
 
--- src/lib.rt:73:31
 shared-slice-read-clashes : tie.Need-shared-slice-read-clashes Inv-loop μ-loop
 shared-slice-read-clashes c = search needs
 
--- src/lib.rt:73:43
 add-clashes : tie.Need-add-clashes Inv-loop μ-loop
 add-clashes c = search needs
 
--- src/lib.rt:73:39
 mul-clashes-2 : tie.Need-mul-clashes-2 Inv-loop μ-loop
 mul-clashes-2 c = search needs
 
--- src/lib.rt:73:39
 shared-slice-read-clashes-2 : tie.Need-shared-slice-read-clashes-2 Inv-loop μ-loop
 shared-slice-read-clashes-2 c = search needs
 
--- src/lib.rt:73:12
 clashes-requires : tie.Need-clashes-requires Inv-loop μ-loop
 clashes-requires c κs = search needs
 
--- src/lib.rt:74:13
 returns-5 : tie.Need-returns-5 Inv-loop μ-loop
 returns-5 c = sym (c .before .before .before .before .before .before .before .before .before .before .before .loop .inv .2 ∙ rw (code-turn _ _ _ (c .before .before .before .before .before .before .before .before .before .before .before .loop .inv .1) (c .before .before .before .before .before .before .before .before .before .before .loop-test .taken), ← (c .before .before .before .before .before .before .region-code .ensures), eq-eqb (c .before .before .before .before .before .before .region-code .result) 0 (c .before .before .before .before .before .if4 .left), ← (c .before .clashes .ensures), c .if5 .taken))
 
--- src/lib.rt:76:9
 add-i : tie.Need-add-i Inv-loop μ-loop
 add-i c = search needs
 
--- src/lib.rt:68:5
 loop-less : tie.Need-loop-less Inv-loop μ-loop
 loop-less c = search needs
 
--- src/lib.rt:68:5
 loop-again : tie.Need-loop-again Inv-loop μ-loop
 loop-again c = (search needs, omega arith, c .before .before .before .before .before .before .before .before .before .before .before .loop .inv .2 ∙ rw (code-turn _ _ _ (c .before .before .before .before .before .before .before .before .before .before .before .loop .inv .1) (c .before .before .before .before .before .before .before .before .before .before .loop-test .taken), ← (c .before .before .before .before .before .before .region-code .ensures), eq-eqb (c .before .before .before .before .before .before .region-code .result) 0 (c .before .before .before .before .before .if4 .left), ← (c .before .clashes .ensures), c .if5 .left))
 
--- src/lib.rt:55:1
 returns-6 : tie.Need-returns-6 Inv-loop μ-loop
 returns-6 c = sym (c .before .loop .inv .2 ∙ code-none _ _ _ (c .loop-test .left))
 

@@ -5,34 +5,26 @@ use Rattle.model.specs.Memory.{regionCode, overlap, contains}
 use borrow.Author.Needs.{needs}
 use Rattle.regions.proofs.region_code.Statement.{statement}
 use Rattle.regions.proofs.region_code.Tie as tie
-use Rattle.regions.proofs.region_code.Reads as reads
-use Rattle.regions.proofs.region_code.Lts as lts
 
--- src/lib.rt:17:9
 returns : tie.Need-returns
 unfolding regionCode
 returns c = let a = c .before .args in rw (eq-eqb (a .l) 0 (c .if1 .taken))
 
--- src/lib.rt:20:9
 returns-2 : tie.Need-returns-2
 unfolding regionCode
 returns-2 c = let a = c .before .before .args in rw (ne-eqb (a .l) 0 (c .before .if1 .left), lt-ltb (a .m) (a .o + a .l) (omega arith))
 
--- src/lib.rt:23:9
 returns-3 : tie.Need-returns-3
 unfolding regionCode
 returns-3 c = let a = c .before .before .before .args in rw (ne-eqb (a .l) 0 (c .before .before .if1 .left), lt-ltb (a .m) (a .o + a .l) (omega arith))
 
--- src/lib.rt:25:8
 sub-if4 : tie.Need-sub-if4
 sub-if4 c = search needs
 
--- src/lib.rt:26:9
 returns-4 : tie.Need-returns-4
 unfolding regionCode
 returns-4 c = let a = c .before .before .before .before .args in rw (ne-eqb (a .l) 0 (c .before .before .before .if1 .left), le-ltb (a .m) (a .o + a .l) (omega arith), lt-ltb (2 ^ 64 - 1) (a .g + a .l) (omega arith))
 
--- src/lib.rt:13:1
 returns-5 : tie.Need-returns-5
 unfolding regionCode
 returns-5 c = let a = c .before .before .before .before .args in rw (ne-eqb (a .l) 0 (c .before .before .before .if1 .left), le-ltb (a .m) (a .o + a .l) (omega arith), le-ltb (2 ^ 64 - 1) (a .g + a .l) (omega arith))

@@ -4,64 +4,49 @@ use Rattle.model.specs.Request.{fits, inOk, outOk, exactly, verdict, status, re
 use borrow.Author.Needs.{needs}
 use Rattle.request.proofs.decided.Statement.{statement}
 use Rattle.request.proofs.decided.Tie as tie
-use Rattle.request.proofs.decided.Reads as reads
-use Rattle.request.proofs.decided.Lts as lts
 
--- src/lib.rt:120:41
 enum-told : tie.Need-enum-told
 enum-told c = search needs
 
--- src/lib.rt:121:46
 enum-told-2 : tie.Need-enum-told-2
 enum-told-2 c = search needs
 
--- src/lib.rt:122:39
 enum-told-3 : tie.Need-enum-told-3
 enum-told-3 c = search needs
 
--- src/lib.rt:123:19
 enum-known-job : tie.Need-enum-known-job
 enum-known-job c = search needs
 
--- src/lib.rt:124:20
 enum-known-job-2 : tie.Need-enum-known-job-2
 enum-known-job-2 c = search needs
 
--- src/lib.rt:126:17
 returns : tie.Need-returns
 unfolding decided
 returns c = rw (c .before .before .before .job2 .given .1, lt-ltb 16 _ (c .if1 .taken))
 
--- src/lib.rt:130:43
 enum-told-4 : tie.Need-enum-told-4
 enum-told-4 c = search needs
 
--- src/lib.rt:116:1
 returns-2 : tie.Need-returns-2
 unfolding decided
 returns-2 c = rw (c .enum-told .given .1)
 
--- src/lib.rt:116:1
 returns-3 : tie.Need-returns-3
 unfolding decided
 returns-3 c = rw (c .enum-told2 .given .1)
 
--- src/lib.rt:116:1
 returns-4 : tie.Need-returns-4
 unfolding decided
 returns-4 c = rw (c .enum-told3 .given .1)
 
--- src/lib.rt:116:1
 returns-5 : tie.Need-returns-5
 unfolding decided
 returns-5 c = rw (c .before .job .given .1)
 
--- src/lib.rt:116:1
 returns-6 : tie.Need-returns-6
 unfolding decided
 returns-6 c = rw (c .before .before .before .job2 .given .1, le-ltb 16 _ (c .if1 .left))
 
--- src/lib.rt:116:1
 returns-7 : tie.Need-returns-7
 unfolding decided
 returns-7 c = rw (c .enum-told4 .given .1)

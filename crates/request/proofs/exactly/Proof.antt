@@ -2,20 +2,15 @@ use Rattle.model.proofs.Tests.{tests}
 use Rattle.model.specs.Request.{fits, inOk, outOk, exactly, verdict, status, reported, decided}
 use Rattle.request.proofs.exactly.Statement.{statement}
 use Rattle.request.proofs.exactly.Tie as tie
-use Rattle.request.proofs.exactly.Reads as reads
-use Rattle.request.proofs.exactly.Lts as lts
 
--- src/lib.rt:52:9
 returns : tie.Need-returns
 unfolding exactly
 returns c = search tests
 
--- src/lib.rt:55:9
 returns-2 : tie.Need-returns-2
 unfolding exactly
 returns-2 c = search tests
 
--- src/lib.rt:48:1
 returns-3 : tie.Need-returns-3
 unfolding exactly
 returns-3 c = search tests

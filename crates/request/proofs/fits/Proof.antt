@@ -2,25 +2,19 @@ use Rattle.model.proofs.Tests.{tests}
 use Rattle.model.specs.Request.{fits, inOk, outOk, exactly, verdict, status, reported, decided}
 use Rattle.request.proofs.fits.Statement.{statement}
 use Rattle.request.proofs.fits.Tie as tie
-use Rattle.request.proofs.fits.Reads as reads
-use Rattle.request.proofs.fits.Lts as lts
 
--- src/lib.rt:13:9
 returns : tie.Need-returns
 unfolding fits
 returns c = search tests
 
--- src/lib.rt:16:9
 returns-2 : tie.Need-returns-2
 unfolding fits
 returns-2 c = search tests
 
--- src/lib.rt:19:9
 returns-3 : tie.Need-returns-3
 unfolding fits
 returns-3 c = search tests
 
--- src/lib.rt:9:1
 returns-4 : tie.Need-returns-4
 unfolding fits
 returns-4 c = search tests

@@ -4,29 +4,21 @@ use mathlib.Core.Path.{_≡_, refl, sym, _∙_, ap}
 use borrow.Author.Needs.{needs}
 use Rattle.request.proofs.out_ok.Statement.{statement}
 use Rattle.request.proofs.out_ok.Tie as tie
-use Rattle.request.proofs.out_ok.Reads as reads
-use Rattle.request.proofs.out_ok.Lts as lts
-use Rattle.request.proofs.fits.Reads as fits-reads
 
--- src/lib.rt:39:9
 returns : tie.Need-returns
 unfolding outOk
 returns c = search tests
 
--- src/lib.rt:41:13
 sub-fits : tie.Need-sub-fits
 sub-fits c = search needs
 
--- src/lib.rt:41:8
 fits-requires : tie.Need-fits-requires
 fits-requires c κs = search needs
 
--- src/lib.rt:42:9
 returns-2 : tie.Need-returns-2
 unfolding outOk
 returns-2 c = search (tests, sym (c .before .before .fits2 .ensures) ∙ c .before .if2 .taken)
 
--- src/lib.rt:34:1
 returns-3 : tie.Need-returns-3
 unfolding outOk
 returns-3 c = search (tests, sym (c .before .fits2 .ensures) ∙ c .if2 .left)

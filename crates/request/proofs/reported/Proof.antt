@@ -2,20 +2,15 @@ use Rattle.model.proofs.Tests.{tests}
 use Rattle.model.specs.Request.{fits, inOk, outOk, exactly, verdict, status, reported, decided}
 use Rattle.request.proofs.reported.Statement.{statement}
 use Rattle.request.proofs.reported.Tie as tie
-use Rattle.request.proofs.reported.Reads as reads
-use Rattle.request.proofs.reported.Lts as lts
 
--- src/lib.rt:107:9
 returns : tie.Need-returns
 unfolding reported
 returns c = search tests
 
--- src/lib.rt:110:9
 returns-2 : tie.Need-returns-2
 unfolding reported
 returns-2 c = search tests
 
--- src/lib.rt:103:1
 returns-3 : tie.Need-returns-3
 unfolding reported
 returns-3 c = search tests

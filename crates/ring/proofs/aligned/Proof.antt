@@ -2,20 +2,15 @@ use Rattle.model.proofs.Tests.{tests}
 use Rattle.model.specs.Ring.{sizeOk, aligned, entangled, areas, pending, oneMore, polled, headed}
 use Rattle.ring.proofs.aligned.Statement.{statement}
 use Rattle.ring.proofs.aligned.Tie as tie
-use Rattle.ring.proofs.aligned.Reads as reads
-use Rattle.ring.proofs.aligned.Lts as lts
 
--- src/lib.rt:49:9
 returns : tie.Need-returns
 unfolding aligned
 returns c = search tests
 
--- src/lib.rt:52:9
 returns-2 : tie.Need-returns-2
 unfolding aligned
 returns-2 c = search tests
 
--- src/lib.rt:45:1
 returns-3 : tie.Need-returns-3
 unfolding aligned
 returns-3 c = search tests

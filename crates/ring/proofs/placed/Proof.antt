@@ -2,54 +2,41 @@ use Rattle.model.specs.Ring.{sizeOk, aligned, entangled, placed, areas, pending
 use borrow.Author.Needs.{needs}
 use Rattle.ring.proofs.placed.Statement.{statement}
 use Rattle.ring.proofs.placed.Tie as tie
-use Rattle.ring.proofs.placed.Reads as reads
-use Rattle.ring.proofs.placed.Lts as lts
 
--- src/lib.rt:71:19
 enum-known-desc : tie.Need-enum-known-desc
 enum-known-desc c = search needs
 
--- src/lib.rt:72:9
 enum-told : tie.Need-enum-told
 enum-told c = search needs
 
--- src/lib.rt:72:9
 returns : tie.Need-returns
 unfolding placed
 returns c = rw (c .enum-told .given .1)
 
--- src/lib.rt:74:19
 enum-known-avail : tie.Need-enum-known-avail
 enum-known-avail c = search needs
 
--- src/lib.rt:75:9
 enum-told-2 : tie.Need-enum-told-2
 enum-told-2 c = search needs
 
--- src/lib.rt:75:9
 returns-2 : tie.Need-returns-2
 unfolding placed
 returns-2 c = rw (c .before .before .before .desc .given .1, c .enum-told2 .given .1)
 
--- src/lib.rt:77:19
 enum-known-used : tie.Need-enum-known-used
 enum-known-used c = search needs
 
--- src/lib.rt:78:9
 enum-told-3 : tie.Need-enum-told-3
 enum-told-3 c = search needs
 
--- src/lib.rt:78:9
 returns-3 : tie.Need-returns-3
 unfolding placed
 returns-3 c = rw (c .before .before .before .before .before .before .desc .given .1, c .before .before .before .avail .given .1, c .enum-told3 .given .1)
 
--- src/lib.rt:81:9
 returns-4 : tie.Need-returns-4
 unfolding placed
 returns-4 c = rw (c .before .before .before .before .before .before .before .before .desc .given .1, c .before .before .before .before .before .avail .given .1, c .before .before .used .given .1, c .if1 .taken)
 
--- src/lib.rt:68:1
 returns-5 : tie.Need-returns-5
 unfolding placed
 returns-5 c = rw (c .before .before .before .before .before .before .before .before .desc .given .1, c .before .before .before .before .before .avail .given .1, c .before .before .used .given .1, c .if1 .left)

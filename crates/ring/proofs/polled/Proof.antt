@@ -4,25 +4,18 @@ use Rattle.model.specs.Ring.{sizeOk, aligned, entangled, areas, pending, oneMor
 use borrow.Author.Needs.{needs}
 use Rattle.ring.proofs.polled.Statement.{statement}
 use Rattle.ring.proofs.polled.Tie as tie
-use Rattle.ring.proofs.polled.Reads as reads
-use Rattle.ring.proofs.polled.Lts as lts
-use Rattle.ring.proofs.pending.Reads as pending-reads
 
--- src/lib.rt:122:9
 pending-requires : tie.Need-pending-requires
 pending-requires c κs = search needs
 
--- src/lib.rt:124:9
 returns : tie.Need-returns
 unfolding polled
 returns c = rw (← (c .before .pending .ensures), eq-eqb _ 0 (c .if1 .taken))
 
--- src/lib.rt:127:9
 returns-2 : tie.Need-returns-2
 unfolding polled
 returns-2 c = rw (← (c .before .before .pending .ensures), ne-eqb _ 0 (c .before .if1 .left), lt-ltb _ _ (c .if2 .taken))
 
--- src/lib.rt:117:1
 returns-3 : tie.Need-returns-3
 unfolding polled
 returns-3 c = rw (← (c .before .before .pending .ensures), ne-eqb _ 0 (c .before .if1 .left), le-ltb _ _ (c .if2 .left))

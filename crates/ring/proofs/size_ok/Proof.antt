@@ -2,50 +2,39 @@ use Rattle.model.proofs.Tests.{tests}
 use Rattle.model.specs.Ring.{sizeOk, aligned, entangled, areas, pending, oneMore, polled, headed}
 use Rattle.ring.proofs.size_ok.Statement.{statement}
 use Rattle.ring.proofs.size_ok.Tie as tie
-use Rattle.ring.proofs.size_ok.Reads as reads
-use Rattle.ring.proofs.size_ok.Lts as lts
 
--- src/lib.rt:19:9
 returns : tie.Need-returns
 unfolding sizeOk
 returns c = search tests
 
--- src/lib.rt:22:9
 returns-2 : tie.Need-returns-2
 unfolding sizeOk
 returns-2 c = search tests
 
--- src/lib.rt:25:9
 returns-3 : tie.Need-returns-3
 unfolding sizeOk
 returns-3 c = search tests
 
--- src/lib.rt:28:9
 returns-4 : tie.Need-returns-4
 unfolding sizeOk
 returns-4 c = search tests
 
--- src/lib.rt:31:9
 returns-5 : tie.Need-returns-5
 unfolding sizeOk
 returns-5 c = search tests
 
--- src/lib.rt:34:9
 returns-6 : tie.Need-returns-6
 unfolding sizeOk
 returns-6 c = search tests
 
--- src/lib.rt:37:9
 returns-7 : tie.Need-returns-7
 unfolding sizeOk
 returns-7 c = search tests
 
--- src/lib.rt:40:9
 returns-8 : tie.Need-returns-8
 unfolding sizeOk
 returns-8 c = search tests
 
--- src/lib.rt:15:1
 returns-9 : tie.Need-returns-9
 unfolding sizeOk
 returns-9 c = search tests

@@ -1,3 +1,4 @@
+-- The rest of the buffers has the whole's answer.
 use Prim.Native.Nat.{_≤_, _+_, _-_, _*_}
 use lib.ListN.{length, take, drop}
 use borrow.Author.Needs.{needs}
@@ -8,9 +9,6 @@ use Rattle.model.proofs.Sane.{full-ok, header-ok, payload-ok, answer-ok, place-
 use Rattle.model.specs.Step.{spans}
 use Rattle.sane.proofs.all_inside.Statement.{statement}
 use Rattle.sane.proofs.all_inside.Tie as tie
-use Rattle.sane.proofs.all_inside.Reads as reads
-use Rattle.sane.proofs.all_inside.Lts as lts
-use Rattle.sane.proofs.inside.Reads as inside-reads
 
 abbrev Inv-loop : tie.InvT-loop
 Inv-loop m chain first end i₀ i = (allInside m (spans (end - first) first chain) ≡ allInside m (spans (end - i) i chain))
@@ -18,59 +16,45 @@ Inv-loop m chain first end i₀ i = (allInside m (spans (end - first) first chai
 abbrev μ-loop : tie.MeasureT-loop
 μ-loop m chain first end i₀ i = end - i
 
--- src/lib.rt:176:5
 loop-holds : tie.Need-loop-holds Inv-loop μ-loop
 loop-holds c = refl
 
--- src/lib.rt:177:28
 mul-inside : tie.Need-mul-inside Inv-loop μ-loop
 mul-inside c = search needs
 
--- src/lib.rt:177:22
 mul-inside-2 : tie.Need-mul-inside-2 Inv-loop μ-loop
 mul-inside-2 c = search needs
 
--- src/lib.rt:177:22
 shared-slice-read-inside : tie.Need-shared-slice-read-inside Inv-loop μ-loop
 shared-slice-read-inside c = search needs
 
--- src/lib.rt:177:42
 mul-inside-3 : tie.Need-mul-inside-3 Inv-loop μ-loop
 mul-inside-3 c = search needs
 
--- src/lib.rt:177:42
 add-inside : tie.Need-add-inside Inv-loop μ-loop
 add-inside c = search needs
 
--- src/lib.rt:177:36
 mul-inside-4 : tie.Need-mul-inside-4 Inv-loop μ-loop
 mul-inside-4 c = search needs
 
--- src/lib.rt:177:36
 shared-slice-read-inside-2 : tie.Need-shared-slice-read-inside-2 Inv-loop μ-loop
 shared-slice-read-inside-2 c = search needs
 
--- src/lib.rt:177:12
 inside-requires : tie.Need-inside-requires Inv-loop μ-loop
 inside-requires c κs = search needs
 
--- src/lib.rt:178:13
 add-i : tie.Need-add-i Inv-loop μ-loop
 add-i c = search needs
 
--- src/lib.rt:176:5
 loop-less : tie.Need-loop-less Inv-loop μ-loop
 loop-less c = search needs
 
--- src/lib.rt:176:5
 loop-again : tie.Need-loop-again Inv-loop μ-loop
 loop-again c = c .before .before .before .before .before .loop .inv ∙ rw (inside-turn _ _ _ _ (c .before .before .before .before .loop-test .taken), ← (c .before .inside .ensures), c .if1 .taken)
 
--- src/lib.rt:180:13
 returns : tie.Need-returns Inv-loop μ-loop
 returns c = sym (c .before .before .before .before .before .loop .inv ∙ rw (inside-turn _ _ _ _ (c .before .before .before .before .loop-test .taken), ← (c .before .inside .ensures), c .if1 .left))
 
--- src/lib.rt:171:1
 returns-2 : tie.Need-returns-2 Inv-loop μ-loop
 returns-2 c = sym (c .before .loop .inv ∙ inside-end _ _ _ _ (c .loop-test .left))
 

@@ -2,40 +2,29 @@ use Rattle.model.specs.Sane.{walkOk, fullOk, jobOk, sane, inside, allInside, pl
 use borrow.Author.Needs.{needs}
 use Rattle.sane.proofs.answer_ready.Statement.{statement}
 use Rattle.sane.proofs.answer_ready.Tie as tie
-use Rattle.sane.proofs.answer_ready.Reads as reads
-use Rattle.sane.proofs.answer_ready.Lts as lts
-use Rattle.sane.proofs.all_inside.Reads as all-inside-reads
 
--- src/lib.rt:219:8
 all-inside-requires : tie.Need-all-inside-requires
 all-inside-requires c κs = search needs
 
--- src/lib.rt:220:20
 sub-last : tie.Need-sub-last
 sub-last c = search needs
 
--- src/lib.rt:221:27
 mul-result : tie.Need-mul-result
 mul-result c = search needs
 
--- src/lib.rt:221:27
 add-result : tie.Need-add-result
 add-result c = search needs
 
--- src/lib.rt:221:21
 mul-result-2 : tie.Need-mul-result-2
 mul-result-2 c = search needs
 
--- src/lib.rt:221:21
 shared-slice-read-result : tie.Need-shared-slice-read-result
 shared-slice-read-result c = search needs
 
--- src/lib.rt:221:9
 returns : tie.Need-returns
 unfolding ready
 returns c = rw (← (c .before .before .before .all-inside .ensures), c .before .before .if1 .taken)
 
--- src/lib.rt:214:1
 returns-2 : tie.Need-returns-2
 unfolding ready
 returns-2 c = rw (← (c .before .all-inside .ensures), c .if1 .left)

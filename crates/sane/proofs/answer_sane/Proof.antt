@@ -5,30 +5,21 @@ use Rattle.model.proofs.Sane.{full-ok, header-ok, payload-ok, answer-ok, place-
 use borrow.Author.Needs.{needs}
 use Rattle.sane.proofs.answer_sane.Statement.{statement}
 use Rattle.sane.proofs.answer_sane.Tie as tie
-use Rattle.sane.proofs.answer_sane.Reads as reads
-use Rattle.sane.proofs.answer_sane.Lts as lts
-use Rattle.sane.proofs.full_ok.Reads as full-ok-reads
-use Rattle.sane.proofs.job_ok.Reads as job-ok-reads
 
--- src/lib.rt:106:8
 full-ok-requires : tie.Need-full-ok-requires
 full-ok-requires c κs = search needs
 
--- src/lib.rt:108:13
 returns : tie.Need-returns
 unfolding sane
 returns c = search (tests, sym (c .before .before .before .full-ok .ensures) ∙ c .before .before .if1 .taken)
 
--- src/lib.rt:110:9
 job-ok-requires : tie.Need-job-ok-requires
 job-ok-requires c κs = full-ok _ _ (sym (c .before .before .before .full-ok .ensures) ∙ c .before .before .if1 .taken) .w-some
 
--- src/lib.rt:110:9
 returns-2 : tie.Need-returns-2
 unfolding sane
 returns-2 c = search (tests, sym (c .before .before .before .before .full-ok .ensures) ∙ c .before .before .before .if1 .taken, sym (c .job-ok .ensures))
 
--- src/lib.rt:102:1
 returns-3 : tie.Need-returns-3
 unfolding sane
 returns-3 c = search (tests, sym (c .before .full-ok .ensures) ∙ c .if1 .left)

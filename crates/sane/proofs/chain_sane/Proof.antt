@@ -4,20 +4,14 @@ use Rattle.model.specs.Sane.{walkOk, fullOk, jobOk, sane, inside, allInside, pl
 use borrow.Author.Needs.{needs}
 use Rattle.sane.proofs.chain_sane.Statement.{statement}
 use Rattle.sane.proofs.chain_sane.Tie as tie
-use Rattle.sane.proofs.chain_sane.Reads as reads
-use Rattle.sane.proofs.chain_sane.Lts as lts
-use Rattle.sane.proofs.walk_ok.Reads as walk-ok-reads
 
--- src/lib.rt:61:8
 walk-ok-requires : tie.Need-walk-ok-requires
 walk-ok-requires c κs = search needs
 
--- src/lib.rt:62:9
 returns : tie.Need-returns
 unfolding sane
 returns c = search (tests, sym (c .before .walk-ok .ensures) ∙ c .if1 .taken)
 
--- src/lib.rt:57:1
 returns-2 : tie.Need-returns-2
 unfolding sane
 returns-2 c = search (tests, sym (c .before .walk-ok .ensures) ∙ c .if1 .left)

@@ -4,25 +4,18 @@ use Rattle.model.specs.Sane.{walkOk, fullOk, jobOk, sane, inside, allInside, pl
 use borrow.Author.Needs.{needs}
 use Rattle.sane.proofs.full_ok.Statement.{statement}
 use Rattle.sane.proofs.full_ok.Tie as tie
-use Rattle.sane.proofs.full_ok.Reads as reads
-use Rattle.sane.proofs.full_ok.Lts as lts
-use Rattle.sane.proofs.walk_ok.Reads as walk-ok-reads
 
--- src/lib.rt:34:8
 walk-ok-requires : tie.Need-walk-ok-requires
 walk-ok-requires c κs = search needs
 
--- src/lib.rt:36:13
 returns : tie.Need-returns
 unfolding fullOk
 returns c = search (tests, sym (c .before .before .before .before .walk-ok .ensures) ∙ c .before .before .before .if1 .taken)
 
--- src/lib.rt:38:9
 returns-2 : tie.Need-returns-2
 unfolding fullOk
 returns-2 c = search (tests, sym (c .before .before .before .walk-ok .ensures) ∙ c .before .before .if1 .taken)
 
--- src/lib.rt:30:1
 returns-3 : tie.Need-returns-3
 unfolding fullOk
 returns-3 c = search (tests, sym (c .before .walk-ok .ensures) ∙ c .if1 .left)

@@ -4,30 +4,22 @@ use Rattle.model.specs.Sane.{walkOk, fullOk, jobOk, sane, inside, allInside, pl
 use borrow.Author.Needs.{needs}
 use Rattle.sane.proofs.header_sane.Statement.{statement}
 use Rattle.sane.proofs.header_sane.Tie as tie
-use Rattle.sane.proofs.header_sane.Reads as reads
-use Rattle.sane.proofs.header_sane.Lts as lts
-use Rattle.sane.proofs.full_ok.Reads as full-ok-reads
 
--- src/lib.rt:71:8
 full-ok-requires : tie.Need-full-ok-requires
 full-ok-requires c κs = search needs
 
--- src/lib.rt:73:13
 returns : tie.Need-returns
 unfolding sane
 returns c = search (tests, sym (c .before .before .before .before .full-ok .ensures) ∙ c .before .before .before .if1 .taken)
 
--- src/lib.rt:76:13
 returns-2 : tie.Need-returns-2
 unfolding sane
 returns-2 c = search (tests, sym (c .before .before .before .before .before .full-ok .ensures) ∙ c .before .before .before .before .if1 .taken)
 
--- src/lib.rt:78:9
 returns-3 : tie.Need-returns-3
 unfolding sane
 returns-3 c = search (tests, sym (c .before .before .before .before .before .before .full-ok .ensures) ∙ c .before .before .before .before .before .if1 .taken)
 
--- src/lib.rt:67:1
 returns-4 : tie.Need-returns-4
 unfolding sane
 returns-4 c = search (tests, sym (c .before .full-ok .ensures) ∙ c .if1 .left)

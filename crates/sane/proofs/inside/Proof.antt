@@ -4,20 +4,15 @@ use Rattle.model.specs.Sane.{walkOk, fullOk, jobOk, sane, inside, allInside, pl
 use Prim.Native.Nat.{_+_}
 use Rattle.sane.proofs.inside.Statement.{statement}
 use Rattle.sane.proofs.inside.Tie as tie
-use Rattle.sane.proofs.inside.Reads as reads
-use Rattle.sane.proofs.inside.Lts as lts
 
--- src/lib.rt:162:9
 returns : tie.Need-returns
 unfolding inside
 returns c = let a = c .before .args in rw (lt-leb (a .at + a .len) (a .m) (omega arith))
 
--- src/lib.rt:165:9
 returns-2 : tie.Need-returns-2
 unfolding inside
 returns-2 c = let a = c .before .before .args in rw (lt-leb (a .at + a .len) (a .m) (omega arith))
 
--- src/lib.rt:158:1
 returns-3 : tie.Need-returns-3
 unfolding inside
 returns-3 c = let a = c .before .before .args in rw (le-leb (a .at + a .len) (a .m) (omega arith))

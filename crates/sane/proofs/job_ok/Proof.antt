@@ -3,68 +3,51 @@ use Rattle.model.specs.Sane.{walkOk, fullOk, jobOk, sane, inside, allInside, pl
 use borrow.Author.Needs.{needs}
 use Rattle.sane.proofs.job_ok.Statement.{statement}
 use Rattle.sane.proofs.job_ok.Tie as tie
-use Rattle.sane.proofs.job_ok.Reads as reads
-use Rattle.sane.proofs.job_ok.Lts as lts
-use Rattle.request.proofs.fits.Reads as fits-reads
 
--- src/lib.rt:48:24
 enum-told : tie.Need-enum-told
 enum-told c = search needs
 
--- src/lib.rt:49:29
 enum-told-2 : tie.Need-enum-told-2
 enum-told-2 c = search needs
 
--- src/lib.rt:50:22
 enum-told-3 : tie.Need-enum-told-3
 enum-told-3 c = search needs
 
--- src/lib.rt:51:19
 enum-known-job : tie.Need-enum-known-job
 enum-known-job c = search needs
 
--- src/lib.rt:51:39
 sub-fits : tie.Need-sub-fits
 sub-fits c = search needs
 
--- src/lib.rt:51:25
 fits-requires : tie.Need-fits-requires
 fits-requires c κs = search needs
 
--- src/lib.rt:52:26
 enum-told-4 : tie.Need-enum-told-4
 enum-told-4 c = search needs
 
--- src/lib.rt:53:26
 enum-told-5 : tie.Need-enum-told-5
 enum-told-5 c = search needs
 
--- src/lib.rt:43:1
 returns : tie.Need-returns
 unfolding jobOk
 returns c = search tests
 
--- src/lib.rt:43:1
 returns-2 : tie.Need-returns-2
 unfolding jobOk
 returns-2 c = search tests
 
--- src/lib.rt:43:1
 returns-3 : tie.Need-returns-3
 unfolding jobOk
 returns-3 c = search tests
 
--- src/lib.rt:43:1
 returns-4 : tie.Need-returns-4
 unfolding jobOk
 returns-4 c = rw (c .before .before .before .job .given .1) (c .fits2 .ensures)
 
--- src/lib.rt:43:1
 returns-5 : tie.Need-returns-5
 unfolding jobOk
 returns-5 c = search tests
 
--- src/lib.rt:43:1
 returns-6 : tie.Need-returns-6
 unfolding jobOk
 returns-6 c = rw (c .before .enum-told5 .given .1)

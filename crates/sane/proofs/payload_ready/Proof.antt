@@ -9,53 +9,39 @@ use Prim.Native.Nat.{_+_, _-_, _*_}
 use borrow.Author.Needs.{needs}
 use Rattle.sane.proofs.payload_ready.Statement.{statement}
 use Rattle.sane.proofs.payload_ready.Tie as tie
-use Rattle.sane.proofs.payload_ready.Reads as reads
-use Rattle.sane.proofs.payload_ready.Lts as lts
-use Rattle.sane.proofs.place_ok.Reads as place-ok-reads
 
--- src/lib.rt:204:8
 place-ok-requires : tie.Need-place-ok-requires
 place-ok-requires c κs = search needs
 
--- src/lib.rt:206:12
 sub-if2 : tie.Need-sub-if2
 sub-if2 c = search needs
 
--- src/lib.rt:206:12
 sub-if2-2 : tie.Need-sub-if2-2
 sub-if2-2 c = search needs
 
--- src/lib.rt:206:35
 mul-if2 : tie.Need-mul-if2
 mul-if2 c = search needs
 
--- src/lib.rt:206:35
 add-if2 : tie.Need-add-if2
 add-if2 c = search needs
 
--- src/lib.rt:206:29
 mul-if2-2 : tie.Need-mul-if2-2
 mul-if2-2 c = search needs
 
--- src/lib.rt:206:29
 shared-slice-read-if2 : tie.Need-shared-slice-read-if2
 shared-slice-read-if2 c = search needs
 
--- src/lib.rt:206:29
 sub-if2-3 : tie.Need-sub-if2-3
 sub-if2-3 c = let h = place-ok _ _ _ (sym (c .before .before .before .before .place-ok .ensures) ∙ c .before .before .before .if1 .taken) in omega (arith, h .skip-in)
 
--- src/lib.rt:207:13
 returns : tie.Need-returns
 unfolding ready
 returns c = let a = c .before .before .before .before .before .before .before .args in rw (← (c .before .before .before .before .before .place-ok .ensures), c .before .before .before .before .if1 .taken, lt-leb (a .got + (getD (now (a .chain)) (2 * a .p .buf + 1) 0 - a .p .skip)) (a .k .r - 16) (omega arith))
 
--- src/lib.rt:209:9
 returns-2 : tie.Need-returns-2
 unfolding ready
 returns-2 c = let a = c .before .before .before .before .before .before .before .args in rw (← (c .before .before .before .before .before .place-ok .ensures), c .before .before .before .before .if1 .taken, le-leb (a .got + (getD (now (a .chain)) (2 * a .p .buf + 1) 0 - a .p .skip)) (a .k .r - 16) (omega arith))
 
--- src/lib.rt:198:1
 returns-3 : tie.Need-returns-3
 unfolding ready
 returns-3 c = rw (← (c .before .place-ok .ensures), c .if1 .left)

@@ -4,48 +4,35 @@ use Rattle.model.specs.Sane.{walkOk, fullOk, jobOk, sane, inside, allInside, pl
 use borrow.Author.Needs.{needs}
 use Rattle.sane.proofs.payload_sane.Statement.{statement}
 use Rattle.sane.proofs.payload_sane.Tie as tie
-use Rattle.sane.proofs.payload_sane.Reads as reads
-use Rattle.sane.proofs.payload_sane.Lts as lts
-use Rattle.request.proofs.fits.Reads as fits-reads
-use Rattle.sane.proofs.full_ok.Reads as full-ok-reads
 
--- src/lib.rt:87:8
 full-ok-requires : tie.Need-full-ok-requires
 full-ok-requires c κs = search needs
 
--- src/lib.rt:89:13
 returns : tie.Need-returns
 unfolding sane
 returns c = search (tests, sym (c .before .before .before .before .full-ok .ensures) ∙ c .before .before .before .if1 .taken)
 
--- src/lib.rt:92:13
 returns-2 : tie.Need-returns-2
 unfolding sane
 returns-2 c = search (tests, sym (c .before .before .before .before .before .before .full-ok .ensures) ∙ c .before .before .before .before .before .if1 .taken)
 
--- src/lib.rt:94:12
 sub-if4 : tie.Need-sub-if4
 sub-if4 c = search needs
 
--- src/lib.rt:95:13
 returns-3 : tie.Need-returns-3
 unfolding sane
 returns-3 c = search (tests, sym (c .before .before .before .before .before .before .before .before .full-ok .ensures) ∙ c .before .before .before .before .before .before .before .if1 .taken)
 
--- src/lib.rt:97:30
 sub-fits : tie.Need-sub-fits
 sub-fits c = search needs
 
--- src/lib.rt:97:9
 fits-requires : tie.Need-fits-requires
 fits-requires c κs = search needs
 
--- src/lib.rt:97:9
 returns-4 : tie.Need-returns-4
 unfolding sane
 returns-4 c = search (tests, sym (c .before .before .before .before .before .before .before .before .before .before .full-ok .ensures) ∙ c .before .before .before .before .before .before .before .before .before .if1 .taken, sym (c .fits2 .ensures))
 
--- src/lib.rt:83:1
 returns-5 : tie.Need-returns-5
 unfolding sane
 returns-5 c = search (tests, sym (c .before .full-ok .ensures) ∙ c .if1 .left)

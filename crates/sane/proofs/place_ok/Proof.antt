@@ -4,48 +4,35 @@ use mathlib.Core.Path.{_≡_, refl, sym, _∙_, ap}
 use borrow.Author.Needs.{needs}
 use Rattle.sane.proofs.place_ok.Statement.{statement}
 use Rattle.sane.proofs.place_ok.Tie as tie
-use Rattle.sane.proofs.place_ok.Reads as reads
-use Rattle.sane.proofs.place_ok.Lts as lts
-use Rattle.sane.proofs.inside.Reads as inside-reads
 
--- src/lib.rt:191:21
 mul-len : tie.Need-mul-len
 mul-len c = search needs
 
--- src/lib.rt:191:21
 add-len : tie.Need-add-len
 add-len c = search needs
 
--- src/lib.rt:191:15
 mul-len-2 : tie.Need-mul-len-2
 mul-len-2 c = search needs
 
--- src/lib.rt:191:15
 shared-slice-read-len : tie.Need-shared-slice-read-len
 shared-slice-read-len c = search needs
 
--- src/lib.rt:193:32
 mul-inside : tie.Need-mul-inside
 mul-inside c = search needs
 
--- src/lib.rt:193:26
 mul-inside-2 : tie.Need-mul-inside-2
 mul-inside-2 c = search needs
 
--- src/lib.rt:193:26
 shared-slice-read-inside : tie.Need-shared-slice-read-inside
 shared-slice-read-inside c = search needs
 
--- src/lib.rt:193:9
 inside-requires : tie.Need-inside-requires
 inside-requires c κs = search needs
 
--- src/lib.rt:193:9
 returns : tie.Need-returns
 unfolding placeOk
 returns c = search (tests, sym (c .inside .ensures))
 
--- src/lib.rt:186:1
 returns-2 : tie.Need-returns-2
 unfolding placeOk
 returns-2 c = search tests

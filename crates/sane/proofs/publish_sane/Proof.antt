@@ -4,20 +4,14 @@ use Rattle.model.specs.Sane.{walkOk, fullOk, jobOk, sane, inside, allInside, pl
 use borrow.Author.Needs.{needs}
 use Rattle.sane.proofs.publish_sane.Statement.{statement}
 use Rattle.sane.proofs.publish_sane.Tie as tie
-use Rattle.sane.proofs.publish_sane.Reads as reads
-use Rattle.sane.proofs.publish_sane.Lts as lts
-use Rattle.sane.proofs.full_ok.Reads as full-ok-reads
 
--- src/lib.rt:119:8
 full-ok-requires : tie.Need-full-ok-requires
 full-ok-requires c κs = search needs
 
--- src/lib.rt:120:9
 returns : tie.Need-returns
 unfolding sane
 returns c = search (tests, sym (c .before .before .full-ok .ensures) ∙ c .before .if1 .taken)
 
--- src/lib.rt:115:1
 returns-2 : tie.Need-returns-2
 unfolding sane
 returns-2 c = search (tests, sym (c .before .full-ok .ensures) ∙ c .if1 .left)

@@ -2,107 +2,77 @@ use Rattle.model.specs.Sane.{walkOk, fullOk, jobOk, sane, inside, allInside, pl
 use borrow.Author.Needs.{needs}
 use Rattle.sane.proofs.sane.Statement.{statement}
 use Rattle.sane.proofs.sane.Tie as tie
-use Rattle.sane.proofs.sane.Reads as reads
-use Rattle.sane.proofs.sane.Lts as lts
-use Rattle.sane.proofs.answer_sane.Reads as answer-sane-reads
-use Rattle.sane.proofs.broken_sane.Reads as broken-sane-reads
-use Rattle.sane.proofs.chain_sane.Reads as chain-sane-reads
-use Rattle.sane.proofs.header_sane.Reads as header-sane-reads
-use Rattle.sane.proofs.payload_sane.Reads as payload-sane-reads
-use Rattle.sane.proofs.publish_sane.Reads as publish-sane-reads
 
--- src/lib.rt:147:24
 enum-told : tie.Need-enum-told
 enum-told c = search needs
 
--- src/lib.rt:148:25
 enum-told-2 : tie.Need-enum-told-2
 enum-told-2 c = search needs
 
--- src/lib.rt:149:22
 enum-known-p : tie.Need-enum-known-p
 enum-known-p c = search needs
 
--- src/lib.rt:149:33
 chain-sane-requires : tie.Need-chain-sane-requires
 chain-sane-requires c κs = search needs
 
--- src/lib.rt:150:23
 enum-known-p-2 : tie.Need-enum-known-p-2
 enum-known-p-2 c = search needs
 
--- src/lib.rt:150:38
 header-sane-requires : tie.Need-header-sane-requires
 header-sane-requires c κs = search needs
 
--- src/lib.rt:151:24
 enum-known-p-3 : tie.Need-enum-known-p-3
 enum-known-p-3 c = search needs
 
--- src/lib.rt:151:42
 payload-sane-requires : tie.Need-payload-sane-requires
 payload-sane-requires c κs = search needs
 
--- src/lib.rt:152:23
 enum-known-p-4 : tie.Need-enum-known-p-4
 enum-known-p-4 c = search needs
 
--- src/lib.rt:152:39
 answer-sane-requires : tie.Need-answer-sane-requires
 answer-sane-requires c κs = search needs
 
--- src/lib.rt:153:24
 enum-known-p-5 : tie.Need-enum-known-p-5
 enum-known-p-5 c = search needs
 
--- src/lib.rt:153:35
 publish-sane-requires : tie.Need-publish-sane-requires
 publish-sane-requires c κs = search needs
 
--- src/lib.rt:154:23
 enum-known-p-6 : tie.Need-enum-known-p-6
 enum-known-p-6 c = search needs
 
--- src/lib.rt:154:47
 broken-sane-requires : tie.Need-broken-sane-requires
 broken-sane-requires c κs = search needs
 
--- src/lib.rt:142:1
 returns : tie.Need-returns
 unfolding sane
 returns c = rw (c .enum-told .given .1)
 
--- src/lib.rt:142:1
 returns-2 : tie.Need-returns-2
 unfolding sane
 returns-2 c = rw (c .enum-told2 .given .1)
 
--- src/lib.rt:142:1
 returns-3 : tie.Need-returns-3
 unfolding sane
 returns-3 c = rw (c .before .before .p .given .1) (c .chain-sane .ensures)
 
--- src/lib.rt:142:1
 returns-4 : tie.Need-returns-4
 unfolding sane
 returns-4 c = rw (c .before .before .p2 .given .1) (c .header-sane .ensures)
 
--- src/lib.rt:142:1
 returns-5 : tie.Need-returns-5
 unfolding sane
 returns-5 c = rw (c .before .before .p3 .given .1) (c .payload-sane .ensures)
 
--- src/lib.rt:142:1
 returns-6 : tie.Need-returns-6
 unfolding sane
 returns-6 c = rw (c .before .before .p4 .given .1) (c .answer-sane .ensures)
 
--- src/lib.rt:142:1
 returns-7 : tie.Need-returns-7
 unfolding sane
 returns-7 c = rw (c .before .before .p5 .given .1) (c .publish-sane .ensures)
 
--- src/lib.rt:142:1
 returns-8 : tie.Need-returns-8
 unfolding sane
 returns-8 c = rw (c .before .before .p6 .given .1) (c .broken-sane .ensures)

@@ -3,38 +3,29 @@ use Rattle.model.specs.Sane.{walkOk, fullOk, jobOk, sane, inside, allInside, pl
 use borrow.Author.Needs.{needs}
 use Rattle.sane.proofs.walk_ok.Statement.{statement}
 use Rattle.sane.proofs.walk_ok.Tie as tie
-use Rattle.sane.proofs.walk_ok.Reads as reads
-use Rattle.sane.proofs.walk_ok.Lts as lts
 
--- src/lib.rt:16:9
 returns : tie.Need-returns
 unfolding walkOk
 returns c = search tests
 
--- src/lib.rt:19:9
 returns-2 : tie.Need-returns-2
 unfolding walkOk
 returns-2 c = search tests
 
--- src/lib.rt:22:9
 returns-3 : tie.Need-returns-3
 unfolding walkOk
 returns-3 c = search tests
 
--- src/lib.rt:24:8
 mul-if4 : tie.Need-mul-if4
 mul-if4 c = search needs
 
--- src/lib.rt:25:9
 returns-4 : tie.Need-returns-4
 unfolding walkOk
 returns-4 c = search tests
 
--- src/lib.rt:27:12
 mul-result : tie.Need-mul-result
 mul-result c = search needs
 
--- src/lib.rt:11:1
 returns-5 : tie.Need-returns-5
 unfolding walkOk
 returns-5 c = search tests

@@ -4,39 +4,28 @@ use Rattle.model.specs.Bytes.{word}
 use borrow.Author.Needs.{needs}
 use Rattle.wire.proofs.get16.Statement.{statement}
 use Rattle.wire.proofs.get16.Tie as tie
-use Rattle.wire.proofs.get16.Reads as reads
-use Rattle.wire.proofs.get16.Lts as lts
-use Rattle.wire.proofs.wide.Reads as wide-reads
 
--- src/lib.rt:19:10
 shared-slice-read-wide : tie.Need-shared-slice-read-wide
 shared-slice-read-wide c = search needs
 
--- src/lib.rt:19:5
 wide-requires : tie.Need-wide-requires
 wide-requires c κs = search needs
 
--- src/lib.rt:19:31
 add-wide : tie.Need-add-wide
 add-wide c = search needs
 
--- src/lib.rt:19:29
 shared-slice-read-wide-2 : tie.Need-shared-slice-read-wide-2
 shared-slice-read-wide-2 c = search needs
 
--- src/lib.rt:19:24
 wide-requires-2 : tie.Need-wide-requires-2
 wide-requires-2 c κs = search needs
 
--- src/lib.rt:19:18
 mul-result : tie.Need-mul-result
 mul-result c = search needs
 
--- src/lib.rt:19:5
 add-result : tie.Need-add-result
 add-result c = search needs
 
--- src/lib.rt:14:1
 returns : tie.Need-returns
 unfolding word
 returns c = (simp towards-numerals (omega arith), search needs)

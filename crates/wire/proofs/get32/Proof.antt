@@ -1,34 +1,26 @@
+-- A number by its two halves (`word-add`).
 use native.Mathlib.Omega.{arith}
 use denote.Ref.{now}
 use Rattle.model.proofs.Words.{word-add}
 use borrow.Author.Needs.{needs}
 use Rattle.wire.proofs.get32.Statement.{statement}
 use Rattle.wire.proofs.get32.Tie as tie
-use Rattle.wire.proofs.get32.Reads as reads
-use Rattle.wire.proofs.get32.Lts as lts
-use Rattle.wire.proofs.get16.Reads as get16-reads
 
--- src/lib.rt:27:5
 get16-requires : tie.Need-get16-requires
 get16-requires c κs = search needs
 
--- src/lib.rt:27:36
 add-get16 : tie.Need-add-get16
 add-get16 c = search needs
 
--- src/lib.rt:27:27
 get16-requires-2 : tie.Need-get16-requires-2
 get16-requires-2 c κs = search needs
 
--- src/lib.rt:27:19
 mul-result : tie.Need-mul-result
 mul-result c = search needs
 
--- src/lib.rt:27:5
 add-result : tie.Need-add-result
 add-result c = search needs
 
--- src/lib.rt:22:1
 returns : tie.Need-returns
 returns c = let a = c .before .before .before .args in (omega (arith, word-add 2 2 (a .k) (now (a .m))), search needs)
 

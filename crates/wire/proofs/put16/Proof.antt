@@ -6,34 +6,25 @@ use lib.ListN.{length-set}
 use borrow.Author.Needs.{needs}
 use Rattle.wire.proofs.put16.Statement.{statement}
 use Rattle.wire.proofs.put16.Tie as tie
-use Rattle.wire.proofs.put16.Reads as reads
-use Rattle.wire.proofs.put16.Lts as lts
 
--- src/lib.rt:41:12
 cast-m : tie.Need-cast-m
 cast-m c = search needs
 
--- src/lib.rt:41:5
 slice-write-m : tie.Need-slice-write-m
 slice-write-m c = search needs
 
--- src/lib.rt:42:16
 cast-m-2 : tie.Need-cast-m-2
 cast-m-2 c = search needs
 
--- src/lib.rt:42:7
 add-m : tie.Need-add-m
 add-m c = search needs
 
--- src/lib.rt:42:5
 slice-write-m-2 : tie.Need-slice-write-m-2
 slice-write-m-2 c = simp length-set (omega arith)
 
--- src/lib.rt:37:1
 same-length : tie.Need-same-length
 same-length c = search needs
 
--- src/lib.rt:37:1
 returns : tie.Need-returns
 unfolding bytes
 returns c = rw (put-cons, put-cons, put-nil, add-one)

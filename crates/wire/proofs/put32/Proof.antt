@@ -1,29 +1,22 @@
+-- Two puts side by side are one (`put-put`).
 use Rattle.model.proofs.Lists.{put-put, put-cons, put-nil}
 use Rattle.model.specs.Bytes.{put, bytes}
 use borrow.Author.Needs.{needs}
 use Rattle.wire.proofs.put32.Statement.{statement}
 use Rattle.wire.proofs.put32.Tie as tie
-use Rattle.wire.proofs.put32.Reads as reads
-use Rattle.wire.proofs.put32.Lts as lts
-use Rattle.wire.proofs.put16.Reads as put16-reads
 
--- src/lib.rt:49:5
 put16-requires : tie.Need-put16-requires
 put16-requires c κs = search needs
 
--- src/lib.rt:50:14
 add-put16 : tie.Need-add-put16
 add-put16 c = search needs
 
--- src/lib.rt:50:5
 put16-requires-2 : tie.Need-put16-requires-2
 put16-requires-2 c κs = search needs
 
--- src/lib.rt:45:1
 same-length : tie.Need-same-length
 same-length c = search needs
 
--- src/lib.rt:45:1
 returns : tie.Need-returns
 unfolding bytes
 returns c = rw (c .before .before .put162 .ensures, c .before .before .before .before .before .before .put16 .ensures) (put-put _ _ _ _)

@@ -3,27 +3,19 @@ use Rattle.model.specs.Bytes.{put, bytes}
 use borrow.Author.Needs.{needs}
 use Rattle.wire.proofs.put64.Statement.{statement}
 use Rattle.wire.proofs.put64.Tie as tie
-use Rattle.wire.proofs.put64.Reads as reads
-use Rattle.wire.proofs.put64.Lts as lts
-use Rattle.wire.proofs.put32.Reads as put32-reads
 
--- src/lib.rt:57:5
 put32-requires : tie.Need-put32-requires
 put32-requires c κs = search needs
 
--- src/lib.rt:58:14
 add-put32 : tie.Need-add-put32
 add-put32 c = search needs
 
--- src/lib.rt:58:5
 put32-requires-2 : tie.Need-put32-requires-2
 put32-requires-2 c κs = search needs
 
--- src/lib.rt:53:1
 same-length : tie.Need-same-length
 same-length c = search needs
 
--- src/lib.rt:53:1
 returns : tie.Need-returns
 unfolding bytes
 returns c = rw (c .before .before .put322 .ensures, c .before .before .before .before .before .before .put32 .ensures) (put-put _ _ _ _)

@@ -3,18 +3,13 @@ use native.Mathlib.Omega.{arith}
 use Prim.Native.Nat.{_+_}
 use Rattle.words.proofs.area_ok.Statement.{statement}
 use Rattle.words.proofs.area_ok.Tie as tie
-use Rattle.words.proofs.area_ok.Reads as reads
-use Rattle.words.proofs.area_ok.Lts as lts
 
--- src/lib.rt:239:9
 returns : tie.Need-returns
 returns c = let a = c .before .args in rw (lt-leb (a .at + a .n) (a .m) (omega arith))
 
--- src/lib.rt:242:9
 returns-2 : tie.Need-returns-2
 returns-2 c = let a = c .before .before .args in rw (lt-leb (a .at + a .n) (a .m) (omega arith))
 
--- src/lib.rt:235:1
 returns-3 : tie.Need-returns-3
 returns-3 c = let a = c .before .before .args in rw (le-leb (a .at + a .n) (a .m) (omega arith))
 

@@ -7,45 +7,33 @@ use mathlib.Core.Path.{_≡_, refl, sym, _∙_, ap}
 use borrow.Author.Needs.{needs}
 use Rattle.words.proofs.disk_ok.Statement.{statement}
 use Rattle.words.proofs.disk_ok.Tie as tie
-use Rattle.words.proofs.disk_ok.Reads as reads
-use Rattle.words.proofs.disk_ok.Lts as lts
-use Rattle.disk.proofs.disk_code.Reads as disk-code-reads
 
--- src/lib.rt:225:24
 shared-slice-read-disk-code : tie.Need-shared-slice-read-disk-code
 shared-slice-read-disk-code c = search needs
 
--- src/lib.rt:225:31
 shared-slice-read-disk-code-2 : tie.Need-shared-slice-read-disk-code-2
 shared-slice-read-disk-code-2 c = search needs
 
--- src/lib.rt:225:38
 shared-slice-read-disk-code-3 : tie.Need-shared-slice-read-disk-code-3
 shared-slice-read-disk-code-3 c = search needs
 
--- src/lib.rt:225:8
 disk-code-requires : tie.Need-disk-code-requires
 disk-code-requires c κs = search needs
 
--- src/lib.rt:226:9
 returns : tie.Need-returns
 unfolding diskOk
 returns c = rw (← (c .before .disk-code .ensures), ne-eqb _ 0 (c .if1 .taken))
 
--- src/lib.rt:228:12
 shared-slice-read-if2 : tie.Need-shared-slice-read-if2
 shared-slice-read-if2 c = search needs
 
--- src/lib.rt:229:9
 returns-2 : tie.Need-returns-2
 unfolding diskOk
 returns-2 c = rw (← (c .before .before .before .disk-code .ensures), eq-eqb _ 0 (c .before .before .if1 .left), lt-leb (getD (now (c .before .before .before .before .before .before .before .before .args .s)) 29 0) 1 (c .if2 .taken))
 
--- src/lib.rt:231:5
 shared-slice-read-result : tie.Need-shared-slice-read-result
 shared-slice-read-result c = search needs
 
--- src/lib.rt:221:1
 returns-3 : tie.Need-returns-3
 unfolding diskOk
 returns-3 c = rw (← (c .before .before .before .before .disk-code .ensures), eq-eqb _ 0 (c .before .before .before .if1 .left), le-leb (getD (now (c .before .before .before .before .before .before .before .before .before .args .s)) 29 0) 1 (c .before .if2 .left))

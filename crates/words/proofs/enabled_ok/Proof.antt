@@ -4,25 +4,17 @@ use Rattle.words.proofs.Laws.{queue-ok}
 use borrow.Author.Needs.{needs}
 use Rattle.words.proofs.enabled_ok.Statement.{statement}
 use Rattle.words.proofs.enabled_ok.Tie as tie
-use Rattle.words.proofs.enabled_ok.Reads as reads
-use Rattle.words.proofs.enabled_ok.Lts as lts
-use Rattle.words.proofs.phase_ok.Reads as phase-ok-reads
-use Rattle.words.proofs.queue_ok.Reads as queue-ok-reads
 
--- src/lib.rt:316:8
 queue-ok-requires : tie.Need-queue-ok-requires
 queue-ok-requires c κs = search needs
 
--- src/lib.rt:317:9
 phase-ok-requires : tie.Need-phase-ok-requires
 phase-ok-requires c κs = (c .before .before .before .pre, queue-ok _ (sym (c .before .queue-ok .ensures) ∙ c .if1 .taken) .size-high)
 
--- src/lib.rt:317:9
 returns : tie.Need-returns
 unfolding enabledOk
 returns c = rw (← (c .before .before .queue-ok .ensures), c .before .if1 .taken) (c .phase-ok .ensures)
 
--- src/lib.rt:312:1
 returns-2 : tie.Need-returns-2
 unfolding enabledOk
 returns-2 c = rw (← (c .before .queue-ok .ensures), c .if1 .left)

@@ -2,35 +2,27 @@ use Rattle.model.proofs.Tests.{tests}
 use Rattle.words.specs.Layout.{jobTag, jobSector, row, rowOf, jobOf, phaseOf, rowAt, rowWords, saved, configAt, mapWords, memoryOk, diskOk, queueOk, lentOk, tagsOk, phaseOk, enabledOk, level}
 use Rattle.words.proofs.job_of.Statement.{statement}
 use Rattle.words.proofs.job_of.Tie as tie
-use Rattle.words.proofs.job_of.Reads as reads
-use Rattle.words.proofs.job_of.Lts as lts
 
--- src/lib.rt:56:9
 returns : tie.Need-returns
 unfolding jobOf
 returns c = search tests
 
--- src/lib.rt:59:9
 returns-2 : tie.Need-returns-2
 unfolding jobOf
 returns-2 c = search tests
 
--- src/lib.rt:62:9
 returns-3 : tie.Need-returns-3
 unfolding jobOf
 returns-3 c = search tests
 
--- src/lib.rt:65:9
 returns-4 : tie.Need-returns-4
 unfolding jobOf
 returns-4 c = search tests
 
--- src/lib.rt:68:9
 returns-5 : tie.Need-returns-5
 unfolding jobOf
 returns-5 c = search tests
 
--- src/lib.rt:52:1
 returns-6 : tie.Need-returns-6
 unfolding jobOf
 returns-6 c = search tests

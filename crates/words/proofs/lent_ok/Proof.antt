@@ -3,29 +3,22 @@ use Rattle.words.specs.Layout.{jobTag, jobSector, row, rowOf, jobOf, pha
 use borrow.Author.Needs.{needs}
 use Rattle.words.proofs.lent_ok.Statement.{statement}
 use Rattle.words.proofs.lent_ok.Tie as tie
-use Rattle.words.proofs.lent_ok.Reads as reads
-use Rattle.words.proofs.lent_ok.Lts as lts
 
--- src/lib.rt:251:16
 mul-if1 : tie.Need-mul-if1
 mul-if1 c = search needs
 
--- src/lib.rt:252:9
 returns : tie.Need-returns
 unfolding lentOk
 returns c = search tests
 
--- src/lib.rt:255:9
 returns-2 : tie.Need-returns-2
 unfolding lentOk
 returns-2 c = search tests
 
--- src/lib.rt:258:9
 returns-3 : tie.Need-returns-3
 unfolding lentOk
 returns-3 c = search tests
 
--- src/lib.rt:247:1
 returns-4 : tie.Need-returns-4
 unfolding lentOk
 returns-4 c = search tests

@@ -3,59 +3,43 @@ use borrow.Author.Tests.{ne-eqb, eq-eqb, lt-ltb, le-ltb, le-leb, lt-leb}
 use borrow.Author.Needs.{needs}
 use Rattle.words.proofs.level.Statement.{statement}
 use Rattle.words.proofs.level.Tie as tie
-use Rattle.words.proofs.level.Reads as reads
-use Rattle.words.proofs.level.Lts as lts
-use Rattle.words.proofs.disk_ok.Reads as disk-ok-reads
-use Rattle.words.proofs.enabled_ok.Reads as enabled-ok-reads
-use Rattle.words.proofs.memory_ok.Reads as memory-ok-reads
 
--- src/lib.rt:327:15
 shared-slice-read-tag : tie.Need-shared-slice-read-tag
 shared-slice-read-tag c = search needs
 
--- src/lib.rt:328:8
 memory-ok-requires : tie.Need-memory-ok-requires
 memory-ok-requires c κs = search needs
 
--- src/lib.rt:330:13
 returns : tie.Need-returns
 unfolding level
 returns c = rw (← (c .before .before .memory-ok .ensures), c .before .if1 .taken, eq-eqb _ 1 (c .if2 .taken))
 
--- src/lib.rt:332:12
 disk-ok-requires : tie.Need-disk-ok-requires
 disk-ok-requires c κs = search needs
 
--- src/lib.rt:334:17
 returns-2 : tie.Need-returns-2
 unfolding level
 returns-2 c = rw (← (c .before .before .before .before .before .memory-ok .ensures), c .before .before .before .before .if1 .taken, ne-eqb _ 1 (c .before .before .before .if2 .left), ← (c .before .before .disk-ok .ensures), c .before .if3 .taken, eq-eqb _ 2 (c .if4 .taken))
 
--- src/lib.rt:337:20
 enabled-ok-requires : tie.Need-enabled-ok-requires
 enabled-ok-requires c κs = search needs
 
--- src/lib.rt:338:21
 returns-3 : tie.Need-returns-3
 unfolding level
 returns-3 c = rw (← (c .before .before .before .before .before .before .before .before .memory-ok .ensures), c .before .before .before .before .before .before .before .if1 .taken, ne-eqb _ 1 (c .before .before .before .before .before .before .if2 .left), ← (c .before .before .before .before .before .disk-ok .ensures), c .before .before .before .before .if3 .taken, ne-eqb _ 2 (c .before .before .before .if4 .left), eq-eqb _ 3 (c .before .before .if5 .taken), ← (c .before .enabled-ok .ensures), c .if6 .taken)
 
--- src/lib.rt:340:17
 returns-4 : tie.Need-returns-4
 unfolding level
 returns-4 c = rw (← (c .before .before .before .before .before .before .before .before .memory-ok .ensures), c .before .before .before .before .before .before .before .if1 .taken, ne-eqb _ 1 (c .before .before .before .before .before .before .if2 .left), ← (c .before .before .before .before .before .disk-ok .ensures), c .before .before .before .before .if3 .taken, ne-eqb _ 2 (c .before .before .before .if4 .left), eq-eqb _ 3 (c .before .before .if5 .taken), ← (c .before .enabled-ok .ensures), c .if6 .left)
 
--- src/lib.rt:342:13
 returns-5 : tie.Need-returns-5
 unfolding level
 returns-5 c = rw (← (c .before .before .before .before .before .before .memory-ok .ensures), c .before .before .before .before .before .if1 .taken, ne-eqb _ 1 (c .before .before .before .before .if2 .left), ← (c .before .before .before .disk-ok .ensures), c .before .before .if3 .taken, ne-eqb _ 2 (c .before .if4 .left), ne-eqb _ 3 (c .if5 .left))
 
--- src/lib.rt:344:9
 returns-6 : tie.Need-returns-6
 unfolding level
 returns-6 c = rw (← (c .before .before .before .before .memory-ok .ensures), c .before .before .before .if1 .taken, ne-eqb _ 1 (c .before .before .if2 .left), ← (c .before .disk-ok .ensures), c .if3 .left)
 
--- src/lib.rt:323:1
 returns-7 : tie.Need-returns-7
 unfolding level
 returns-7 c = rw (← (c .before .memory-ok .ensures), c .if1 .left)

@@ -9,53 +9,39 @@ use Rattle.model.specs.Bytes.{part}
 use borrow.Author.Needs.{needs}
 use Rattle.words.proofs.memory_ok.Statement.{statement}
 use Rattle.words.proofs.memory_ok.Tie as tie
-use Rattle.words.proofs.memory_ok.Reads as reads
-use Rattle.words.proofs.memory_ok.Lts as lts
-use Rattle.regions.proofs.all_sound.Reads as all-sound-reads
 
--- src/lib.rt:210:13
 shared-slice-read-n : tie.Need-shared-slice-read-n
 shared-slice-read-n c = search needs
 
--- src/lib.rt:212:9
 returns : tie.Need-returns
 unfolding memoryOk
 returns c = let n = getD (now (c .before .before .before .args .s)) 2 0 in rw (lt-leb 1 n (omega arith))
 
--- src/lib.rt:215:9
 returns-2 : tie.Need-returns-2
 unfolding memoryOk
 returns-2 c = let n = getD (now (c .before .before .before .before .args .s)) 2 0 in rw (le-leb 1 n (omega arith), lt-leb n 8 (omega arith))
 
--- src/lib.rt:217:19
 mul-end : tie.Need-mul-end
 mul-end c = search needs
 
--- src/lib.rt:217:15
 add-end : tie.Need-add-end
 add-end c = search needs
 
--- src/lib.rt:218:24
 shared-slice-read-all-sound : tie.Need-shared-slice-read-all-sound
 shared-slice-read-all-sound c = search needs
 
--- src/lib.rt:218:30
 sub-all-sound : tie.Need-sub-all-sound
 sub-all-sound c = search needs
 
--- src/lib.rt:218:30
 part-all-sound-start : tie.Need-part-all-sound-start
 part-all-sound-start c = search needs
 
--- src/lib.rt:218:30
 part-all-sound-end : tie.Need-part-all-sound-end
 part-all-sound-end c = search needs
 
--- src/lib.rt:218:5
 all-sound-requires : tie.Need-all-sound-requires
 all-sound-requires c κs = search needs
 
--- src/lib.rt:206:1
 returns-3 : tie.Need-returns-3
 unfolding memoryOk part
 returns-3 c = let n = getD (now (c .before .before .before .before .before .before .before .args .s)) 2 0 in let e : 3 + 3 * n - 3 ≡ 3 * n = omega arith in rw (le-leb 1 n (omega arith), le-leb n 8 (omega arith)) (rw e at (c .all-sound .ensures))

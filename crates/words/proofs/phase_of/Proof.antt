@@ -3,55 +3,41 @@ use Rattle.words.specs.Layout.{jobTag, jobSector, row, rowOf, jobOf, pha
 use borrow.Author.Needs.{needs}
 use Rattle.words.proofs.phase_of.Statement.{statement}
 use Rattle.words.proofs.phase_of.Tie as tie
-use Rattle.words.proofs.phase_of.Reads as reads
-use Rattle.words.proofs.phase_of.Lts as lts
-use Rattle.words.proofs.job_of.Reads as job-of-reads
-use Rattle.words.proofs.walk.Reads as walk-reads
 
--- src/lib.rt:120:9
 walk-requires : tie.Need-walk-requires
 walk-requires c κs = search needs
 
--- src/lib.rt:122:9
 returns : tie.Need-returns
 unfolding phaseOf
 returns c = search tests
 
--- src/lib.rt:125:9
 returns-2 : tie.Need-returns-2
 unfolding phaseOf
 returns-2 c = search tests
 
--- src/lib.rt:128:9
 returns-3 : tie.Need-returns-3
 unfolding phaseOf
 returns-3 c = search tests
 
--- src/lib.rt:131:9
 returns-4 : tie.Need-returns-4
 unfolding phaseOf
 returns-4 c = search tests
 
--- src/lib.rt:134:9
 returns-5 : tie.Need-returns-5
 unfolding phaseOf
 returns-5 c = search tests
 
--- src/lib.rt:137:33
 job-of-requires : tie.Need-job-of-requires
 job-of-requires c κs = search needs
 
--- src/lib.rt:137:9
 returns-6 : tie.Need-returns-6
 unfolding phaseOf
 returns-6 c = search tests
 
--- src/lib.rt:140:9
 returns-7 : tie.Need-returns-7
 unfolding phaseOf
 returns-7 c = search tests
 
--- src/lib.rt:117:1
 returns-8 : tie.Need-returns-8
 unfolding phaseOf
 returns-8 c = search tests

@@ -2,51 +2,35 @@ use Rattle.words.specs.Layout.{jobTag, jobSector, row, rowOf, jobOf, pha
 use borrow.Author.Needs.{needs}
 use Rattle.words.proofs.phase_ok.Statement.{statement}
 use Rattle.words.proofs.phase_ok.Tie as tie
-use Rattle.words.proofs.phase_ok.Reads as reads
-use Rattle.words.proofs.phase_ok.Lts as lts
-use Rattle.sane.proofs.sane.Reads as sane-reads
-use Rattle.words.proofs.phase_of.Reads as phase-of-reads
-use Rattle.words.proofs.row_at.Reads as row-at-reads
-use Rattle.words.proofs.tags_ok.Reads as tags-ok-reads
 
--- src/lib.rt:304:16
 shared-slice-read-tags-ok : tie.Need-shared-slice-read-tags-ok
 shared-slice-read-tags-ok c = search needs
 
--- src/lib.rt:304:23
 shared-slice-read-tags-ok-2 : tie.Need-shared-slice-read-tags-ok-2
 shared-slice-read-tags-ok-2 c = search needs
 
--- src/lib.rt:304:8
 tags-ok-requires : tie.Need-tags-ok-requires
 tags-ok-requires c κs = search needs
 
--- src/lib.rt:305:13
 row-at-requires : tie.Need-row-at-requires
 row-at-requires c κs = search needs
 
--- src/lib.rt:306:13
 phase-of-requires : tie.Need-phase-of-requires
 phase-of-requires c κs = search needs
 
--- src/lib.rt:307:27
 shared-slice-read-sane : tie.Need-shared-slice-read-sane
 shared-slice-read-sane c = search needs
 
--- src/lib.rt:307:34
 shared-slice-read-sane-2 : tie.Need-shared-slice-read-sane-2
 shared-slice-read-sane-2 c = search needs
 
--- src/lib.rt:307:9
 sane-requires : tie.Need-sane-requires
 sane-requires c κs = search needs
 
--- src/lib.rt:307:9
 returns : tie.Need-returns
 unfolding phaseOk
 returns c = rw (← (c .before .before .before .before .before .before .tags-ok .ensures), c .before .before .before .before .before .if1 .taken, ← (c .before .before .before .before .row-at .ensures), ← (c .before .before .before .phase-of .ensures)) (c .sane .ensures)
 
--- src/lib.rt:299:1
 returns-2 : tie.Need-returns-2
 unfolding phaseOk
 returns-2 c = rw (← (c .before .tags-ok .ensures), c .if1 .left)

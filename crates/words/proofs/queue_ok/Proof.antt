@@ -5,109 +5,80 @@ use Rattle.model.proofs.Ring.{size-range}
 use borrow.Author.Needs.{needs}
 use Rattle.words.proofs.queue_ok.Statement.{statement}
 use Rattle.words.proofs.queue_ok.Tie as tie
-use Rattle.words.proofs.queue_ok.Reads as reads
-use Rattle.words.proofs.queue_ok.Lts as lts
-use Rattle.ring.proofs.size_ok.Reads as size-ok-reads
-use Rattle.words.proofs.area_ok.Reads as area-ok-reads
-use Rattle.words.proofs.lent_ok.Reads as lent-ok-reads
 
--- src/lib.rt:267:13
 shared-slice-read-q : tie.Need-shared-slice-read-q
 shared-slice-read-q c = search needs
 
--- src/lib.rt:268:13
 shared-slice-read-m : tie.Need-shared-slice-read-m
 shared-slice-read-m c = search needs
 
--- src/lib.rt:269:8
 size-ok-requires : tie.Need-size-ok-requires
 size-ok-requires c κs = search needs
 
--- src/lib.rt:270:23
 shared-slice-read-area-ok : tie.Need-shared-slice-read-area-ok
 shared-slice-read-area-ok c = search needs
 
--- src/lib.rt:270:30
 mul-area-ok : tie.Need-mul-area-ok
 mul-area-ok c = omega (arith, size-range _ (sym (c .before .before .size-ok .ensures) ∙ c .before .if1 .taken))
 
--- src/lib.rt:270:12
 area-ok-requires : tie.Need-area-ok-requires
 area-ok-requires c κs = search needs
 
--- src/lib.rt:271:27
 shared-slice-read-area-ok-2 : tie.Need-shared-slice-read-area-ok-2
 shared-slice-read-area-ok-2 c = search needs
 
--- src/lib.rt:271:38
 mul-area-ok-2 : tie.Need-mul-area-ok-2
 mul-area-ok-2 c = omega (arith, size-range _ (sym (c .before .before .before .before .before .size-ok .ensures) ∙ c .before .before .before .before .if1 .taken))
 
--- src/lib.rt:271:34
 add-area-ok : tie.Need-add-area-ok
 add-area-ok c = omega (arith, size-range _ (sym (c .before .before .before .before .before .size-ok .ensures) ∙ c .before .before .before .before .if1 .taken))
 
--- src/lib.rt:271:16
 area-ok-requires-2 : tie.Need-area-ok-requires-2
 area-ok-requires-2 c κs = search needs
 
--- src/lib.rt:272:31
 shared-slice-read-area-ok-3 : tie.Need-shared-slice-read-area-ok-3
 shared-slice-read-area-ok-3 c = search needs
 
--- src/lib.rt:272:42
 mul-area-ok-3 : tie.Need-mul-area-ok-3
 mul-area-ok-3 c = omega (arith, size-range _ (sym (c .before .before .before .before .before .before .before .before .size-ok .ensures) ∙ c .before .before .before .before .before .before .before .if1 .taken))
 
--- src/lib.rt:272:38
 add-area-ok-2 : tie.Need-add-area-ok-2
 add-area-ok-2 c = omega (arith, size-range _ (sym (c .before .before .before .before .before .before .before .before .size-ok .ensures) ∙ c .before .before .before .before .before .before .before .if1 .taken))
 
--- src/lib.rt:272:20
 area-ok-requires-3 : tie.Need-area-ok-requires-3
 area-ok-requires-3 c κs = search needs
 
--- src/lib.rt:273:39
 shared-slice-read-lent-ok : tie.Need-shared-slice-read-lent-ok
 shared-slice-read-lent-ok c = search needs
 
--- src/lib.rt:273:46
 shared-slice-read-lent-ok-2 : tie.Need-shared-slice-read-lent-ok-2
 shared-slice-read-lent-ok-2 c = search needs
 
--- src/lib.rt:273:53
 shared-slice-read-lent-ok-3 : tie.Need-shared-slice-read-lent-ok-3
 shared-slice-read-lent-ok-3 c = search needs
 
--- src/lib.rt:273:60
 shared-slice-read-lent-ok-4 : tie.Need-shared-slice-read-lent-ok-4
 shared-slice-read-lent-ok-4 c = search needs
 
--- src/lib.rt:273:21
 lent-ok-requires : tie.Need-lent-ok-requires
 lent-ok-requires c κs = omega (arith, size-range _ (sym (c .before .before .before .before .before .before .before .before .before .before .before .before .before .before .size-ok .ensures) ∙ c .before .before .before .before .before .before .before .before .before .before .before .before .before .if1 .taken))
 
--- src/lib.rt:273:21
 returns : tie.Need-returns
 unfolding queueOk
 returns c = rw (← (c .before .before .before .before .before .before .before .before .before .before .before .before .before .before .before .size-ok .ensures), c .before .before .before .before .before .before .before .before .before .before .before .before .before .before .if1 .taken, ← (c .before .before .before .before .before .before .before .before .before .before .before .before .area-ok .ensures), c .before .before .before .before .before .before .before .before .before .before .before .if2 .taken, ← (c .before .before .before .before .before .before .before .before .before .area-ok2 .ensures), c .before .before .before .before .before .before .before .before .if3 .taken, ← (c .before .before .before .before .before .before .area-ok3 .ensures), c .before .before .before .before .before .if4 .taken) (c .lent-ok .ensures)
 
--- src/lib.rt:275:17
 returns-2 : tie.Need-returns-2
 unfolding queueOk
 returns-2 c = rw (← (c .before .before .before .before .before .before .before .before .before .before .size-ok .ensures), c .before .before .before .before .before .before .before .before .before .if1 .taken, ← (c .before .before .before .before .before .before .before .area-ok .ensures), c .before .before .before .before .before .before .if2 .taken, ← (c .before .before .before .before .area-ok2 .ensures), c .before .before .before .if3 .taken, ← (c .before .area-ok3 .ensures), c .if4 .left)
 
--- src/lib.rt:277:13
 returns-3 : tie.Need-returns-3
 unfolding queueOk
 returns-3 c = rw (← (c .before .before .before .before .before .before .before .size-ok .ensures), c .before .before .before .before .before .before .if1 .taken, ← (c .before .before .before .before .area-ok .ensures), c .before .before .before .if2 .taken, ← (c .before .area-ok2 .ensures), c .if3 .left)
 
--- src/lib.rt:279:9
 returns-4 : tie.Need-returns-4
 unfolding queueOk
 returns-4 c = rw (← (c .before .before .before .before .size-ok .ensures), c .before .before .before .if1 .taken, ← (c .before .area-ok .ensures), c .if2 .left)
 
--- src/lib.rt:263:1
 returns-5 : tie.Need-returns-5
 unfolding queueOk
 returns-5 c = rw (← (c .before .size-ok .ensures), c .if1 .left)

@@ -5,67 +5,49 @@ use lib.ListN.{length-set}
 use borrow.Author.Needs.{needs}
 use Rattle.words.proofs.save.Statement.{statement}
 use Rattle.words.proofs.save.Tie as tie
-use Rattle.words.proofs.save.Reads as reads
-use Rattle.words.proofs.save.Lts as lts
-use Rattle.words.proofs.row_of.Reads as row-of-reads
 
--- src/lib.rt:168:9
 row-of-requires : tie.Need-row-of-requires
 row-of-requires c κs = search needs
 
--- src/lib.rt:169:5
 slice-write-s : tie.Need-slice-write-s
 slice-write-s c = search needs
 
--- src/lib.rt:170:5
 slice-write-s-2 : tie.Need-slice-write-s-2
 slice-write-s-2 c = simp length-set (omega arith)
 
--- src/lib.rt:171:5
 slice-write-s-3 : tie.Need-slice-write-s-3
 slice-write-s-3 c = simp length-set (omega arith)
 
--- src/lib.rt:172:5
 slice-write-s-4 : tie.Need-slice-write-s-4
 slice-write-s-4 c = simp length-set (omega arith)
 
--- src/lib.rt:173:5
 slice-write-s-5 : tie.Need-slice-write-s-5
 slice-write-s-5 c = simp length-set (omega arith)
 
--- src/lib.rt:174:5
 slice-write-s-6 : tie.Need-slice-write-s-6
 slice-write-s-6 c = simp length-set (omega arith)
 
--- src/lib.rt:175:5
 slice-write-s-7 : tie.Need-slice-write-s-7
 slice-write-s-7 c = simp length-set (omega arith)
 
--- src/lib.rt:176:5
 slice-write-s-8 : tie.Need-slice-write-s-8
 slice-write-s-8 c = simp length-set (omega arith)
 
--- src/lib.rt:177:5
 slice-write-s-9 : tie.Need-slice-write-s-9
 slice-write-s-9 c = simp length-set (omega arith)
 
--- src/lib.rt:178:5
 slice-write-s-10 : tie.Need-slice-write-s-10
 slice-write-s-10 c = simp length-set (omega arith)
 
--- src/lib.rt:179:5
 slice-write-s-11 : tie.Need-slice-write-s-11
 slice-write-s-11 c = simp length-set (omega arith)
 
--- src/lib.rt:180:5
 slice-write-s-12 : tie.Need-slice-write-s-12
 slice-write-s-12 c = simp length-set (omega arith)
 
--- src/lib.rt:164:1
 same-length : tie.Need-same-length
 same-length c = search needs
 
--- src/lib.rt:164:1
 returns : tie.Need-returns
 unfolding saved rowWords
 returns c = rw (← (c .row-of .ensures)) (simp (put-cons, put-nil))

@@ -2,25 +2,19 @@ use Rattle.model.proofs.Tests.{tests}
 use Rattle.words.specs.Layout.{jobTag, jobSector, row, rowOf, jobOf, phaseOf, rowAt, rowWords, saved, configAt, mapWords, memoryOk, diskOk, queueOk, lentOk, tagsOk, phaseOk, enabledOk, level}
 use Rattle.words.proofs.tags_ok.Statement.{statement}
 use Rattle.words.proofs.tags_ok.Tie as tie
-use Rattle.words.proofs.tags_ok.Reads as reads
-use Rattle.words.proofs.tags_ok.Lts as lts
 
--- src/lib.rt:288:9
 returns : tie.Need-returns
 unfolding tagsOk
 returns c = search tests
 
--- src/lib.rt:291:9
 returns-2 : tie.Need-returns-2
 unfolding tagsOk
 returns-2 c = search tests
 
--- src/lib.rt:294:9
 returns-3 : tie.Need-returns-3
 unfolding tagsOk
 returns-3 c = search tests
 
--- src/lib.rt:284:1
 returns-4 : tie.Need-returns-4
 unfolding tagsOk
 returns-4 c = search tests

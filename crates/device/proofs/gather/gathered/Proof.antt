@@ -3,38 +3,26 @@ use Rattle.model.specs.Step.{codeAfter, onward, gathered, paid, ends}
 use borrow.Author.Needs.{needs}
 use Rattle.device.proofs.gather.gathered.Statement.{statement}
 use Rattle.device.proofs.gather.gathered.Tie as tie
-use Rattle.device.proofs.gather.gathered.Reads as reads
-use Rattle.device.proofs.gather.gathered.Lts as lts
-use Rattle.device.proofs.gather.onward.Reads as onward-reads
-use Rattle.request.proofs.decided.Reads as decided-reads
-use Rattle.request.proofs.verdict.Reads as verdict-reads
 
--- src/gather.rt:40:9
 onward-requires : tie.Need-onward-requires
 onward-requires c κs = search needs
 
--- src/gather.rt:41:8
 add-if1 : tie.Need-add-if1
 add-if1 c = search needs
 
--- src/gather.rt:42:39
 add-t13 : tie.Need-add-t13
 add-t13 c = search needs
 
--- src/gather.rt:42:9
 returns : tie.Need-returns
 unfolding gathered
 returns c = rw (lt-ltb _ 16 (c .if1 .taken), c .before .onward .ensures)
 
--- src/gather.rt:44:9
 verdict-requires : tie.Need-verdict-requires
 verdict-requires c κs = search needs
 
--- src/gather.rt:45:5
 decided-requires : tie.Need-decided-requires
 decided-requires c κs = search needs
 
--- src/gather.rt:32:1
 returns-2 : tie.Need-returns-2
 unfolding gathered
 returns-2 c = rw (le-ltb _ 16 (c .before .before .if1 .left), ← (c .before .before .before .onward .ensures), ← (c .before .verdict .ensures)) (c .decided .ensures)

@@ -1,79 +1,55 @@
 use borrow.Author.Needs.{needs}
 use Rattle.device.proofs.gather.header.Statement.{statement}
 use Rattle.device.proofs.gather.header.Tie as tie
-use Rattle.device.proofs.gather.header.Reads as reads
-use Rattle.device.proofs.gather.header.Lts as lts
-use Rattle.answer.proofs.smaller.Reads as smaller-reads
-use Rattle.device.proofs.gather.gathered.Reads as gathered-reads
-use Rattle.moves.proofs.copy.Reads as copy-reads
-use Rattle.wire.proofs.get32.Reads as get32-reads
-use Rattle.wire.proofs.get64.Reads as get64-reads
 
--- src/gather.rt:55:20
 mul-at : tie.Need-mul-at
 mul-at c = search needs
 
--- src/gather.rt:55:14
 mul-at-2 : tie.Need-mul-at-2
 mul-at-2 c = search needs
 
--- src/gather.rt:55:14
 shared-slice-read-at : tie.Need-shared-slice-read-at
 shared-slice-read-at c = search needs
 
--- src/gather.rt:55:14
 add-at : tie.Need-add-at
 add-at c = search needs
 
--- src/gather.rt:56:19
 mul-l : tie.Need-mul-l
 mul-l c = search needs
 
--- src/gather.rt:56:19
 add-l : tie.Need-add-l
 add-l c = search needs
 
--- src/gather.rt:56:13
 mul-l-2 : tie.Need-mul-l-2
 mul-l-2 c = search needs
 
--- src/gather.rt:56:13
 shared-slice-read-l : tie.Need-shared-slice-read-l
 shared-slice-read-l c = search needs
 
--- src/gather.rt:56:13
 sub-l : tie.Need-sub-l
 sub-l c = search needs
 
--- src/gather.rt:57:29
 sub-smaller : tie.Need-sub-smaller
 sub-smaller c = search needs
 
--- src/gather.rt:57:9
 smaller-requires : tie.Need-smaller-requires
 smaller-requires c κs = search needs
 
--- src/gather.rt:58:5
 copy-requires : tie.Need-copy-requires
 copy-requires c κs = search needs
 
--- src/gather.rt:59:9
 get32-requires : tie.Need-get32-requires
 get32-requires c κs = search needs
 
--- src/gather.rt:60:9
 get64-requires : tie.Need-get64-requires
 get64-requires c κs = search needs
 
--- src/gather.rt:61:5
 gathered-requires : tie.Need-gathered-requires
 gathered-requires c κs = search needs
 
--- src/gather.rt:49:1
 same-length : tie.Need-same-length
 same-length c = search needs
 
--- src/gather.rt:49:1
 returns : tie.Need-returns
 returns c = (rw (c .before .before .before .before .before .before .before .copy .ensures, c .before .before .before .before .before .before .before .before .before .smaller .ensures), rw (← (c .before .before .before .before .before .before .before .before .before .smaller .ensures), ← (c .before .before .before .get32 .ensures .0), ← (c .before .get64 .ensures)) (c .gathered .ensures))
 

@@ -3,23 +3,17 @@ use Rattle.model.specs.Step.{codeAfter, onward, gathered, paid, ends}
 use borrow.Author.Needs.{needs}
 use Rattle.device.proofs.gather.onward.Statement.{statement}
 use Rattle.device.proofs.gather.onward.Tie as tie
-use Rattle.device.proofs.gather.onward.Reads as reads
-use Rattle.device.proofs.gather.onward.Lts as lts
 
--- src/gather.rt:21:18
 add-t5 : tie.Need-add-t5
 add-t5 c = search needs
 
--- src/gather.rt:20:9
 returns : tie.Need-returns
 unfolding onward
 returns c = search tests
 
--- src/gather.rt:27:15
 add-t6 : tie.Need-add-t6
 add-t6 c = search needs
 
--- src/gather.rt:13:1
 returns-2 : tie.Need-returns-2
 unfolding onward
 returns-2 c = search tests

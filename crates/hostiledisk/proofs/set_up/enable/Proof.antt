@@ -6,47 +6,35 @@ use Prim.Native.Nat.{_+_, _-_, _*_, _^_}
 use borrow.Author.Needs.{needs}
 use Rattle.hostiledisk.proofs.set_up.enable.Statement.{statement}
 use Rattle.hostiledisk.proofs.set_up.enable.Tie as tie
-use Rattle.hostiledisk.proofs.set_up.enable.Reads as reads
-use Rattle.hostiledisk.proofs.set_up.enable.Lts as lts
-use Rattle.hostiledisk.proofs.set_up.note_queue.Reads as note-queue-reads
 
--- src/set_up.rt:81:24
 enum-known-found : tie.Need-enum-known-found
 enum-known-found c = search needs
 
--- src/set_up.rt:82:23
 enum-known-found-2 : tie.Need-enum-known-found-2
 enum-known-found-2 c = search needs
 
--- src/set_up.rt:84:17
 returns : tie.Need-returns
 unfolding enabledWith
 returns c = let q = c .before .before .before .found2 .given .0 .0 in let a = c .before .before .before .before .before .before .args in let g = c .before .before .before .found2 .given .1 in let t = lt-ltb (a .chain) (2 * q .size) (omega arith) in (rw (g, t), rw (g, t))
 
--- src/set_up.rt:87:17
 returns-2 : tie.Need-returns-2
 unfolding enabledWith
 returns-2 c = let q = c .before .before .before .before .found2 .given .0 .0 in let a = c .before .before .before .before .before .before .before .args in let g = c .before .before .before .before .found2 .given .1 in let t = le-ltb (a .chain) (2 * q .size) (omega arith) in let u = lt-ltb (a .stage) 1048576 (omega arith) in (rw (g, t, u), rw (g, t, u))
 
--- src/set_up.rt:90:17
 returns-3 : tie.Need-returns-3
 unfolding enabledWith
 returns-3 c = let q = c .before .before .before .before .before .found2 .given .0 .0 in let a = c .before .before .before .before .before .before .before .before .args in let g = c .before .before .before .before .before .found2 .given .1 in let t = le-ltb (a .chain) (2 * q .size) (omega arith) in let u = le-ltb (a .stage) 1048576 (omega arith) in let v = le-leb 65536 (a .start) (omega arith) in (rw (g, t, u, v), rw (g, t, u, v))
 
--- src/set_up.rt:92:13
 note-queue-requires : tie.Need-note-queue-requires
 note-queue-requires c κs = search needs
 
--- src/set_up.rt:75:1
 returns-4 : tie.Need-returns-4
 unfolding enabledWith
 returns-4 c = (rw (c .before .found .given .1), rw (c .before .found .given .1))
 
--- src/set_up.rt:75:1
 same-length : tie.Need-same-length
 same-length c = c .before .before .note-queue .kept .0
 
--- src/set_up.rt:75:1
 returns-5 : tie.Need-returns-5
 unfolding enabledWith
 returns-5 c = let q = c .before .before .before .before .before .before .before .before .before .found2 .given .0 .0 in let a = c .before .before .before .before .before .before .before .before .before .before .before .before .args in let g = c .before .before .before .before .before .before .before .before .before .found2 .given .1 in let t = le-ltb (a .chain) (2 * q .size) (omega arith) in let u = le-ltb (a .stage) 1048576 (omega arith) in let v = lt-leb 65536 (a .start) (omega arith) in (rw (g, t, u, v), rw (g, t, u, v) (c .before .before .note-queue .ensures))

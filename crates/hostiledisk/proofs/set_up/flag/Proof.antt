@@ -2,14 +2,10 @@ use Rattle.model.proofs.Tests.{tests}
 use Rattle.hostiledisk.specs.Calls.{chainWords, hdMemory, flag, diskSet, hdDisk, queueSet, enabledWith, hdEnableAt, hdReset, seen, seenOf, shown, statusWords, hdStatus, isBroken, longEnough, stepped, steppedOn, Going, hdStep, StepIs}
 use Rattle.hostiledisk.proofs.set_up.flag.Statement.{statement}
 use Rattle.hostiledisk.proofs.set_up.flag.Tie as tie
-use Rattle.hostiledisk.proofs.set_up.flag.Reads as reads
-use Rattle.hostiledisk.proofs.set_up.flag.Lts as lts
 
--- src/set_up.rt:30:9
 returns : tie.Need-returns
 returns c = search tests
 
--- src/set_up.rt:26:1
 returns-2 : tie.Need-returns-2
 returns-2 c = search tests
 

@@ -7,65 +7,46 @@ use lib.ListN.{length-set}
 use borrow.Author.Needs.{needs}
 use Rattle.hostiledisk.proofs.set_up.note_disk.Statement.{statement}
 use Rattle.hostiledisk.proofs.set_up.note_disk.Tie as tie
-use Rattle.hostiledisk.proofs.set_up.note_disk.Reads as reads
-use Rattle.hostiledisk.proofs.set_up.note_disk.Lts as lts
-use Rattle.hostiledisk.proofs.set_up.flag.Reads as flag-reads
-use Rattle.wire.proofs.get32.Reads as get32-reads
-use Rattle.wire.proofs.get64.Reads as get64-reads
 
--- src/set_up.rt:40:5
 slice-write-state : tie.Need-slice-write-state
 slice-write-state c = search needs
 
--- src/set_up.rt:41:5
 slice-write-state-2 : tie.Need-slice-write-state-2
 slice-write-state-2 c = simp length-set (omega arith)
 
--- src/set_up.rt:42:5
 slice-write-state-3 : tie.Need-slice-write-state-3
 slice-write-state-3 c = simp length-set (omega arith)
 
--- src/set_up.rt:43:17
 flag-requires : tie.Need-flag-requires
 flag-requires c κs = search needs
 
--- src/set_up.rt:43:5
 slice-write-state-4 : tie.Need-slice-write-state-4
 slice-write-state-4 c = simp length-set (omega arith)
 
--- src/set_up.rt:44:5
 slice-write-state-5 : tie.Need-slice-write-state-5
 slice-write-state-5 c = simp length-set (omega arith)
 
--- src/set_up.rt:45:17
 get64-requires : tie.Need-get64-requires
 get64-requires c κs = search needs
 
--- src/set_up.rt:45:5
 slice-write-state-6 : tie.Need-slice-write-state-6
 slice-write-state-6 c = simp length-set (omega arith)
 
--- src/set_up.rt:46:17
 get64-requires-2 : tie.Need-get64-requires-2
 get64-requires-2 c κs = search needs
 
--- src/set_up.rt:46:5
 slice-write-state-7 : tie.Need-slice-write-state-7
 slice-write-state-7 c = simp length-set (omega arith)
 
--- src/set_up.rt:47:17
 get32-requires : tie.Need-get32-requires
 get32-requires c κs = search needs
 
--- src/set_up.rt:47:5
 slice-write-state-8 : tie.Need-slice-write-state-8
 slice-write-state-8 c = simp length-set (omega arith)
 
--- src/set_up.rt:35:1
 same-length : tie.Need-same-length
 same-length c = simp length-set
 
--- src/set_up.rt:35:1
 returns : tie.Need-returns
 unfolding diskSet
 returns c = rw (c .before .before .before .flag .ensures, c .before .before .get64 .ensures, c .before .get642 .ensures, c .get32 .ensures .0) (simp (put-cons, put-nil))

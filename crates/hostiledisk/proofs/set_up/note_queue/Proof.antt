@@ -8,47 +8,34 @@ use lib.ListN.{length-set}
 use borrow.Author.Needs.{needs}
 use Rattle.hostiledisk.proofs.set_up.note_queue.Statement.{statement}
 use Rattle.hostiledisk.proofs.set_up.note_queue.Tie as tie
-use Rattle.hostiledisk.proofs.set_up.note_queue.Reads as reads
-use Rattle.hostiledisk.proofs.set_up.note_queue.Lts as lts
-use Rattle.words.proofs.save.Reads as save-reads
 
--- src/set_up.rt:65:5
 slice-write-state : tie.Need-slice-write-state
 slice-write-state c = search needs
 
--- src/set_up.rt:66:5
 slice-write-state-2 : tie.Need-slice-write-state-2
 slice-write-state-2 c = simp length-set (omega arith)
 
--- src/set_up.rt:67:5
 slice-write-state-3 : tie.Need-slice-write-state-3
 slice-write-state-3 c = simp length-set (omega arith)
 
--- src/set_up.rt:68:5
 slice-write-state-4 : tie.Need-slice-write-state-4
 slice-write-state-4 c = simp length-set (omega arith)
 
--- src/set_up.rt:69:5
 slice-write-state-5 : tie.Need-slice-write-state-5
 slice-write-state-5 c = simp length-set (omega arith)
 
--- src/set_up.rt:70:5
 slice-write-state-6 : tie.Need-slice-write-state-6
 slice-write-state-6 c = simp length-set (omega arith)
 
--- src/set_up.rt:71:5
 slice-write-state-7 : tie.Need-slice-write-state-7
 slice-write-state-7 c = simp length-set (omega arith)
 
--- src/set_up.rt:72:5
 save-requires : tie.Need-save-requires
 save-requires c κs = simp length-set (omega arith)
 
--- src/set_up.rt:61:1
 same-length : tie.Need-same-length
 same-length c = c .before .before .save .kept .0 ∙ simp length-set
 
--- src/set_up.rt:61:1
 returns : tie.Need-returns
 unfolding saved queueSet
 returns c = rw (c .before .before .save .ensures) (simp put-cons)

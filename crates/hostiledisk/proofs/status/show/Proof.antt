@@ -5,46 +5,34 @@ use lib.ListN.{length-set}
 use borrow.Author.Needs.{needs}
 use Rattle.hostiledisk.proofs.status.show.Statement.{statement}
 use Rattle.hostiledisk.proofs.status.show.Tie as tie
-use Rattle.hostiledisk.proofs.status.show.Reads as reads
-use Rattle.hostiledisk.proofs.status.show.Lts as lts
 
--- src/status.rt:51:5
 slice-write-out : tie.Need-slice-write-out
 slice-write-out c = search needs
 
--- src/status.rt:52:5
 slice-write-out-2 : tie.Need-slice-write-out-2
 slice-write-out-2 c = simp length-set (omega arith)
 
--- src/status.rt:53:5
 slice-write-out-3 : tie.Need-slice-write-out-3
 slice-write-out-3 c = simp length-set (omega arith)
 
--- src/status.rt:54:5
 slice-write-out-4 : tie.Need-slice-write-out-4
 slice-write-out-4 c = simp length-set (omega arith)
 
--- src/status.rt:55:5
 slice-write-out-5 : tie.Need-slice-write-out-5
 slice-write-out-5 c = simp length-set (omega arith)
 
--- src/status.rt:56:5
 slice-write-out-6 : tie.Need-slice-write-out-6
 slice-write-out-6 c = simp length-set (omega arith)
 
--- src/status.rt:57:5
 slice-write-out-7 : tie.Need-slice-write-out-7
 slice-write-out-7 c = simp length-set (omega arith)
 
--- src/status.rt:58:5
 slice-write-out-8 : tie.Need-slice-write-out-8
 slice-write-out-8 c = search needs
 
--- src/status.rt:47:1
 same-length : tie.Need-same-length
 same-length c = search needs
 
--- src/status.rt:47:1
 returns : tie.Need-returns
 unfolding shown
 returns c = simp (put-cons, put-nil)

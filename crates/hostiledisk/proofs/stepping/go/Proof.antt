@@ -1,3 +1,4 @@
+-- The words that passed every test give what `turn` stands on (`fit-of`); what it leaves is the model's step, and is saved.
 use native.Mathlib.Omega.{arith}
 use mathlib.Core.Path.{_≡_, refl, sym, _∙_, ap}
 use Rattle.hostiledisk.specs.Calls.{stepped, steppedOn, Going, hdStep, StepIs}
@@ -9,78 +10,56 @@ use Rattle.model.specs.Bytes.{part}
 use borrow.Author.Needs.{needs}
 use Rattle.hostiledisk.proofs.stepping.go.Statement.{statement}
 use Rattle.hostiledisk.proofs.stepping.go.Tie as tie
-use Rattle.hostiledisk.proofs.stepping.go.Reads as reads
-use Rattle.hostiledisk.proofs.stepping.go.Lts as lts
-use Rattle.device.proofs.turn.Reads as turn-reads
-use Rattle.words.proofs.config_at.Reads as config-at-reads
-use Rattle.words.proofs.save.Reads as save-reads
 
--- src/stepping.rt:53:9
 config-at-requires : tie.Need-config-at-requires
 config-at-requires c κs = search needs
 
--- src/stepping.rt:54:13
 slice-read-n : tie.Need-slice-read-n
 slice-read-n c = search needs
 
--- src/stepping.rt:55:19
 mul-end : tie.Need-mul-end
 mul-end c = omega (arith, level-three _ (c .before .before .before .before .before .before .before .before .pre .enabled) .memory .few)
 
--- src/stepping.rt:55:15
 add-end : tie.Need-add-end
 add-end c = omega (arith, level-three _ (c .before .before .before .before .before .before .before .before .pre .enabled) .memory .few)
 
--- src/stepping.rt:58:9
 slice-read-turn : tie.Need-slice-read-turn
 slice-read-turn c = search needs
 
--- src/stepping.rt:59:9
 slice-read-turn-2 : tie.Need-slice-read-turn-2
 slice-read-turn-2 c = search needs
 
--- src/stepping.rt:61:9
 sub-turn : tie.Need-sub-turn
 sub-turn c = search needs
 
--- src/stepping.rt:61:9
 part-turn-start : tie.Need-part-turn-start
 part-turn-start c = search needs
 
--- src/stepping.rt:61:9
 part-turn-end : tie.Need-part-turn-end
 part-turn-end c = omega (arith, level-three _ (c .before .before .before .before .before .before .before .before .before .before .before .pre .enabled) .memory .few, c .before .before .before .before .before .before .before .before .before .before .before .pre .words-long)
 
--- src/stepping.rt:56:9
 turn-requires : tie.Need-turn-requires
 unfolding part
 turn-requires c κs = let n = getD (now (c .before .before .before .before .before .before .before .before .before .before .before .before .before .before .before .before .args .state)) 2 0 in let e : 3 + 3 * n - 3 ≡ 3 * n = omega arith in rw (c .before .before .before .before .before .before .before .before .before .config-at .ensures, e) (fit-of _ _ _ _ _ _ (c .before .before .before .before .before .before .before .before .before .before .before .before .before .before .before .before .pre))
 
--- src/stepping.rt:68:5
 save-requires : tie.Need-save-requires
 save-requires c κs = search needs
 
--- src/stepping.rt:42:1
 same-length : tie.Need-same-length
 same-length c = search needs
 
--- src/stepping.rt:42:1
 same-length-2 : tie.Need-same-length-2
 same-length-2 c = search needs
 
--- src/stepping.rt:42:1
 same-length-3 : tie.Need-same-length-3
 same-length-3 c = search needs
 
--- src/stepping.rt:42:1
 same-length-4 : tie.Need-same-length-4
 same-length-4 c = search needs
 
--- src/stepping.rt:42:1
 same-length-5 : tie.Need-same-length-5
 same-length-5 c = search needs
 
--- src/stepping.rt:42:1
 returns : tie.Need-returns
 unfolding part steppedOn stepped
 returns c = let n = getD (now (c .before .before .before .before .before .before .before .before .before .before .before .before .before .before .before .before .before .before .before .before .before .before .before .before .before .before .before .before .before .args .state)) 2 0 in let e : 3 + 3 * n - 3 ≡ 3 * n = omega arith in let m = rw (c .before .before .before .before .before .before .before .before .before .before .before .before .before .before .before .before .before .before .before .before .before .before .config-at .ensures, e, c .before .before .before .before .before .before .before .before .before .before .before .before .before .before .before .before .before .before .before .before .before .before .before .before .before .before .before .before .before .pre .phase-is) at (c .before .before .before .before .before .before .before .before .before .before .before .before .turn .ensures) in record { code-is = m .code-is; state-is = rw (c .before .before .save .ensures, m .taken-is, m .answered-is, m .phase-is); mem-is = m .mem-is; backing-is = m .backing-is; chain-is = m .chain-is; stage-is = m .stage-is }

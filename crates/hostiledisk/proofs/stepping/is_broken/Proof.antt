@@ -3,77 +3,59 @@ use Rattle.hostiledisk.specs.Calls.{chainWords, hdMemory, flag, diskSet,
 use borrow.Author.Needs.{needs}
 use Rattle.hostiledisk.proofs.stepping.is_broken.Statement.{statement}
 use Rattle.hostiledisk.proofs.stepping.is_broken.Tie as tie
-use Rattle.hostiledisk.proofs.stepping.is_broken.Reads as reads
-use Rattle.hostiledisk.proofs.stepping.is_broken.Lts as lts
 
--- src/stepping.rt:14:24
 enum-told : tie.Need-enum-told
 enum-told c = search needs
 
--- src/stepping.rt:15:25
 enum-told-2 : tie.Need-enum-told-2
 enum-told-2 c = search needs
 
--- src/stepping.rt:16:31
 enum-told-3 : tie.Need-enum-told-3
 enum-told-3 c = search needs
 
--- src/stepping.rt:17:35
 enum-told-4 : tie.Need-enum-told-4
 enum-told-4 c = search needs
 
--- src/stepping.rt:18:39
 enum-told-5 : tie.Need-enum-told-5
 enum-told-5 c = search needs
 
--- src/stepping.rt:19:35
 enum-told-6 : tie.Need-enum-told-6
 enum-told-6 c = search needs
 
--- src/stepping.rt:20:33
 enum-told-7 : tie.Need-enum-told-7
 enum-told-7 c = search needs
 
--- src/stepping.rt:21:35
 enum-told-8 : tie.Need-enum-told-8
 enum-told-8 c = search needs
 
--- src/stepping.rt:10:1
 returns : tie.Need-returns
 unfolding isBroken
 returns c = search tests
 
--- src/stepping.rt:10:1
 returns-2 : tie.Need-returns-2
 unfolding isBroken
 returns-2 c = search tests
 
--- src/stepping.rt:10:1
 returns-3 : tie.Need-returns-3
 unfolding isBroken
 returns-3 c = search tests
 
--- src/stepping.rt:10:1
 returns-4 : tie.Need-returns-4
 unfolding isBroken
 returns-4 c = search tests
 
--- src/stepping.rt:10:1
 returns-5 : tie.Need-returns-5
 unfolding isBroken
 returns-5 c = search tests
 
--- src/stepping.rt:10:1
 returns-6 : tie.Need-returns-6
 unfolding isBroken
 returns-6 c = search tests
 
--- src/stepping.rt:10:1
 returns-7 : tie.Need-returns-7
 unfolding isBroken
 returns-7 c = search tests
 
--- src/stepping.rt:10:1
 returns-8 : tie.Need-returns-8
 unfolding isBroken
 returns-8 c = search tests

@@ -3,41 +3,31 @@ use Rattle.hostiledisk.specs.Calls.{chainWords, hdMemory, flag, diskSet,
 use borrow.Author.Needs.{needs}
 use Rattle.hostiledisk.proofs.stepping.long_enough.Statement.{statement}
 use Rattle.hostiledisk.proofs.stepping.long_enough.Tie as tie
-use Rattle.hostiledisk.proofs.stepping.long_enough.Reads as reads
-use Rattle.hostiledisk.proofs.stepping.long_enough.Lts as lts
 
--- src/stepping.rt:30:14
 shared-slice-read-if1 : tie.Need-shared-slice-read-if1
 shared-slice-read-if1 c = search needs
 
--- src/stepping.rt:31:9
 returns : tie.Need-returns
 unfolding longEnough
 returns c = search tests
 
--- src/stepping.rt:33:18
 shared-slice-read-if2 : tie.Need-shared-slice-read-if2
 shared-slice-read-if2 c = search needs
 
--- src/stepping.rt:34:9
 returns-2 : tie.Need-returns-2
 unfolding longEnough
 returns-2 c = search tests
 
--- src/stepping.rt:36:16
 shared-slice-read-if3 : tie.Need-shared-slice-read-if3
 shared-slice-read-if3 c = search needs
 
--- src/stepping.rt:37:9
 returns-3 : tie.Need-returns-3
 unfolding longEnough
 returns-3 c = search tests
 
--- src/stepping.rt:39:5
 shared-slice-read-result : tie.Need-shared-slice-read-result
 shared-slice-read-result c = search needs
 
--- src/stepping.rt:26:1
 returns-4 : tie.Need-returns-4
 unfolding longEnough
 returns-4 c = search tests

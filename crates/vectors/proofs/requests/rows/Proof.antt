@@ -3,11 +3,6 @@ use borrow.Author.Needs.{needs}
 use Prim.Native.Nat.{_≤_, _-_}
 use Rattle.vectors.proofs.requests.rows.Statement.{statement}
 use Rattle.vectors.proofs.requests.rows.Tie as tie
-use Rattle.vectors.proofs.requests.rows.Reads as reads
-use Rattle.vectors.proofs.requests.rows.Lts as lts
-use Rattle.vectors.proofs.requests.asked.Reads as asked-reads
-use Rattle.vectors.proofs.requests.name.Reads as name-reads
-use Rattle.vectors.proofs.requests.row.Reads as row-reads
 
 abbrev Inv-loop : tie.InvT-loop
 Inv-loop mem₀ backing₀ stage₀ i₀ mem backing stage i = 0 ≤ i
@@ -15,35 +10,27 @@ Inv-loop mem₀ backing₀ stage₀ i₀ mem backing stage i = 0 ≤ i
 abbrev μ-loop : tie.MeasureT-loop
 μ-loop mem₀ backing₀ stage₀ i₀ mem backing stage i = 16 - i
 
--- src/requests.rt:106:5
 loop-holds : tie.Need-loop-holds Inv-loop μ-loop
 loop-holds c = search needs
 
--- src/requests.rt:107:13
 asked-requires : tie.Need-asked-requires Inv-loop μ-loop
 asked-requires c κs = search needs
 
--- src/requests.rt:108:9
 name-requires : tie.Need-name-requires Inv-loop μ-loop
 name-requires c κs = search needs
 
--- src/requests.rt:109:9
 row-requires : tie.Need-row-requires Inv-loop μ-loop
 row-requires c κs = search needs
 
--- src/requests.rt:110:9
 add-i : tie.Need-add-i Inv-loop μ-loop
 add-i c = search needs
 
--- src/requests.rt:106:5
 loop-less : tie.Need-loop-less Inv-loop μ-loop
 loop-less c = search needs
 
--- src/requests.rt:106:5
 loop-again : tie.Need-loop-again Inv-loop μ-loop
 loop-again c = search needs
 
--- src/requests.rt:104:1
 returns : tie.Need-returns Inv-loop μ-loop
 returns c = search needs
 

@@ -3,10 +3,6 @@ use borrow.Author.Needs.{needs}
 use Prim.Native.Nat.{_≤_, _-_}
 use Rattle.vectors.proofs.requests.sectors.Statement.{statement}
 use Rattle.vectors.proofs.requests.sectors.Tie as tie
-use Rattle.vectors.proofs.requests.sectors.Reads as reads
-use Rattle.vectors.proofs.requests.sectors.Lts as lts
-use Rattle.vectors.proofs.areas.show.Reads as show-reads
-use Rattle.vectors.proofs.say.text.Reads as text-reads
 
 abbrev Inv-loop : tie.InvT-loop
 Inv-loop mem i₀ t4 i = 0 ≤ i
@@ -14,47 +10,36 @@ Inv-loop mem i₀ t4 i = 0 ≤ i
 abbrev μ-loop : tie.MeasureT-loop
 μ-loop mem i₀ t4 i = 6 - i
 
--- src/requests.rt:115:15
 slice-aggregate-text : tie.Need-slice-aggregate-text Inv-loop μ-loop
 slice-aggregate-text c = search needs
 
--- src/requests.rt:115:5
 text-requires : tie.Need-text-requires Inv-loop μ-loop
 text-requires c κs = search needs
 
--- src/requests.rt:117:5
 loop-holds : tie.Need-loop-holds Inv-loop μ-loop
 loop-holds c = search needs
 
--- src/requests.rt:118:21
 slice-aggregate-show : tie.Need-slice-aggregate-show Inv-loop μ-loop
 slice-aggregate-show c = search needs
 
--- src/requests.rt:118:42
 mul-show : tie.Need-mul-show Inv-loop μ-loop
 mul-show c = search needs
 
--- src/requests.rt:118:33
 add-show : tie.Need-add-show Inv-loop μ-loop
 add-show c = search needs
 
--- src/requests.rt:118:9
 show-requires : tie.Need-show-requires Inv-loop μ-loop
 show-requires c κs = search needs
 
--- src/requests.rt:119:9
 add-i : tie.Need-add-i Inv-loop μ-loop
 add-i c = search needs
 
--- src/requests.rt:117:5
 loop-less : tie.Need-loop-less Inv-loop μ-loop
 loop-less c = search needs
 
--- src/requests.rt:117:5
 loop-again : tie.Need-loop-again Inv-loop μ-loop
 loop-again c = search needs
 
--- src/requests.rt:114:1
 returns : tie.Need-returns Inv-loop μ-loop
 returns c = search needs
 

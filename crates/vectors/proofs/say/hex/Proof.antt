@@ -5,10 +5,6 @@ use Prim.Native.Nat.{_≤_, _-_}
 use lib.ListN.{length}
 use Rattle.vectors.proofs.say.hex.Statement.{statement}
 use Rattle.vectors.proofs.say.hex.Tie as tie
-use Rattle.vectors.proofs.say.hex.Reads as reads
-use Rattle.vectors.proofs.say.hex.Lts as lts
-use Rattle.vectors.proofs.say.digits.Reads as digits-reads
-use Rattle.vectors.proofs.say.text.Reads as text-reads
 
 abbrev Inv-loop : tie.InvT-loop
 Inv-loop b i₀ t3 i = i ≤ length b
@@ -16,39 +12,30 @@ Inv-loop b i₀ t3 i = i ≤ length b
 abbrev μ-loop : tie.MeasureT-loop
 μ-loop b i₀ t3 i = length b - i
 
--- src/say.rt:14:5
 loop-holds : tie.Need-loop-holds Inv-loop μ-loop
 loop-holds c = search needs
 
--- src/say.rt:16:18
 slice-aggregate-text : tie.Need-slice-aggregate-text Inv-loop μ-loop
 slice-aggregate-text c = search needs
 
--- src/say.rt:16:13
 text-requires : tie.Need-text-requires Inv-loop μ-loop
 text-requires c κs = search needs
 
--- src/say.rt:18:16
 shared-slice-read-digits : tie.Need-shared-slice-read-digits Inv-loop μ-loop
 shared-slice-read-digits c = search needs
 
--- src/say.rt:18:9
 digits-requires : tie.Need-digits-requires Inv-loop μ-loop
 digits-requires c κs = search needs
 
--- src/say.rt:19:9
 add-i : tie.Need-add-i Inv-loop μ-loop
 add-i c = search needs
 
--- src/say.rt:14:5
 loop-less : tie.Need-loop-less Inv-loop μ-loop
 loop-less c = search needs
 
--- src/say.rt:14:5
 loop-again : tie.Need-loop-again Inv-loop μ-loop
 loop-again c = search needs
 
--- src/say.rt:12:1
 returns : tie.Need-returns Inv-loop μ-loop
 returns c = search needs
 

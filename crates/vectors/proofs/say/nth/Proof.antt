@@ -4,9 +4,6 @@ use Prim.Native.Nat.{_≤_, _-_}
 use lib.ListN.{length}
 use Rattle.vectors.proofs.say.nth.Statement.{statement}
 use Rattle.vectors.proofs.say.nth.Tie as tie
-use Rattle.vectors.proofs.say.nth.Reads as reads
-use Rattle.vectors.proofs.say.nth.Lts as lts
-use Rattle.vectors.proofs.say.letter.Reads as letter-reads
 
 abbrev Inv-loop : tie.InvT-loop
 Inv-loop names i at₀ k₀ at k = k ≤ length names
@@ -14,31 +11,24 @@ Inv-loop names i at₀ k₀ at k = k ≤ length names
 abbrev μ-loop : tie.MeasureT-loop
 μ-loop names i at₀ k₀ at k = length names - k
 
--- src/say.rt:57:5
 loop-holds : tie.Need-loop-holds Inv-loop μ-loop
 loop-holds c = search needs
 
--- src/say.rt:58:21
 shared-slice-read-letter : tie.Need-shared-slice-read-letter Inv-loop μ-loop
 shared-slice-read-letter c = search needs
 
--- src/say.rt:58:9
 letter-requires : tie.Need-letter-requires Inv-loop μ-loop
 letter-requires c κs = search needs
 
--- src/say.rt:59:9
 add-k : tie.Need-add-k Inv-loop μ-loop
 add-k c = search needs
 
--- src/say.rt:57:5
 loop-less : tie.Need-loop-less Inv-loop μ-loop
 loop-less c = search needs
 
--- src/say.rt:57:5
 loop-again : tie.Need-loop-again Inv-loop μ-loop
 loop-again c = search needs
 
--- src/say.rt:54:1
 returns : tie.Need-returns Inv-loop μ-loop
 returns c = search needs
 

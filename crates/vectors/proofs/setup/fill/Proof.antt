@@ -6,8 +6,6 @@ use mathlib.Core.Path.{_≡_, refl}
 use lib.ListN.{length, length-set}
 use Rattle.vectors.proofs.setup.fill.Statement.{statement}
 use Rattle.vectors.proofs.setup.fill.Tie as tie
-use Rattle.vectors.proofs.setup.fill.Reads as reads
-use Rattle.vectors.proofs.setup.fill.Lts as lts
 
 abbrev Inv-loop : tie.InvT-loop
 Inv-loop map₀ i₀ map i = (i ≤ length map₀ + 2) × (length map ≡ length map₀)
@@ -15,63 +13,48 @@ Inv-loop map₀ i₀ map i = (i ≤ length map₀ + 2) × (length map ≡ length
 abbrev μ-loop : tie.MeasureT-loop
 μ-loop map₀ i₀ map i = length map₀ + 2 - i
 
--- src/setup.rt:61:5
 loop-holds : tie.Need-loop-holds Inv-loop μ-loop
 loop-holds c = (search needs, refl)
 
--- src/setup.rt:61:11
 add-loop : tie.Need-add-loop Inv-loop μ-loop
 add-loop c = search needs
 
--- src/setup.rt:62:9
 mul-map : tie.Need-mul-map Inv-loop μ-loop
 mul-map c = search needs
 
--- src/setup.rt:62:9
 slice-write-map : tie.Need-slice-write-map Inv-loop μ-loop
 slice-write-map c = search needs
 
--- src/setup.rt:63:13
 add-map : tie.Need-add-map Inv-loop μ-loop
 add-map c = search needs
 
--- src/setup.rt:63:9
 mul-map-2 : tie.Need-mul-map-2 Inv-loop μ-loop
 mul-map-2 c = search needs
 
--- src/setup.rt:63:9
 slice-write-map-2 : tie.Need-slice-write-map-2 Inv-loop μ-loop
 slice-write-map-2 c = simp length-set (omega arith)
 
--- src/setup.rt:64:13
 add-map-2 : tie.Need-add-map-2 Inv-loop μ-loop
 add-map-2 c = search needs
 
--- src/setup.rt:64:9
 mul-map-3 : tie.Need-mul-map-3 Inv-loop μ-loop
 mul-map-3 c = search needs
 
--- src/setup.rt:64:9
 slice-write-map-3 : tie.Need-slice-write-map-3 Inv-loop μ-loop
 slice-write-map-3 c = simp length-set (omega arith)
 
--- src/setup.rt:65:9
 add-i : tie.Need-add-i Inv-loop μ-loop
 add-i c = search needs
 
--- src/setup.rt:61:5
 loop-less : tie.Need-loop-less Inv-loop μ-loop
 loop-less c = search needs
 
--- src/setup.rt:61:5
 loop-again : tie.Need-loop-again Inv-loop μ-loop
 loop-again c = (search needs, simp length-set (omega arith))
 
--- src/setup.rt:59:1
 same-length : tie.Need-same-length Inv-loop μ-loop
 same-length c = search needs
 
--- src/setup.rt:59:1
 returns : tie.Need-returns Inv-loop μ-loop
 returns c = search needs
 

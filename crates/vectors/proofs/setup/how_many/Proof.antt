@@ -4,80 +4,58 @@ use lib.ListN.{length-take}
 use borrow.Author.Needs.{needs}
 use Rattle.vectors.proofs.setup.how_many.Statement.{statement}
 use Rattle.vectors.proofs.setup.how_many.Tie as tie
-use Rattle.vectors.proofs.setup.how_many.Reads as reads
-use Rattle.vectors.proofs.setup.how_many.Lts as lts
-use Rattle.vectors.proofs.setup.ask.Reads as ask-reads
-use Rattle.vectors.proofs.setup.fill.Reads as fill-reads
 
--- src/setup.rt:71:10
 slice-aggregate-fill : tie.Need-slice-aggregate-fill
 slice-aggregate-fill c = search needs
 
--- src/setup.rt:71:5
 fill-requires : tie.Need-fill-requires
 fill-requires c κs = search needs
 
--- src/setup.rt:72:9
 slice-aggregate-ask : tie.Need-slice-aggregate-ask
 slice-aggregate-ask c = search needs
 
--- src/setup.rt:72:21
 array-share-prefix-map : tie.Need-array-share-prefix-map
 array-share-prefix-map c = search needs
 
--- src/setup.rt:72:21
 slice-aggregate-ask-2 : tie.Need-slice-aggregate-ask-2
 slice-aggregate-ask-2 c = search needs
 
--- src/setup.rt:72:5
 ask-requires : tie.Need-ask-requires
 ask-requires c κs = search needs
 
--- src/setup.rt:73:9
 slice-aggregate-ask-3 : tie.Need-slice-aggregate-ask-3
 slice-aggregate-ask-3 c = search needs
 
--- src/setup.rt:73:27
 array-share-prefix-map-2 : tie.Need-array-share-prefix-map-2
 array-share-prefix-map-2 c = search needs
 
--- src/setup.rt:73:27
 slice-aggregate-ask-4 : tie.Need-slice-aggregate-ask-4
 slice-aggregate-ask-4 c = simp length-take (omega (arith, c .before .before .before .before .before .before .fill .kept .0))
 
--- src/setup.rt:73:5
 ask-requires-2 : tie.Need-ask-requires-2
 ask-requires-2 c κs = search needs
 
--- src/setup.rt:74:9
 slice-aggregate-ask-5 : tie.Need-slice-aggregate-ask-5
 slice-aggregate-ask-5 c = search needs
 
--- src/setup.rt:74:22
 array-share-prefix-map-3 : tie.Need-array-share-prefix-map-3
 array-share-prefix-map-3 c = search needs
 
--- src/setup.rt:74:22
 slice-aggregate-ask-6 : tie.Need-slice-aggregate-ask-6
 slice-aggregate-ask-6 c = simp length-take (omega (arith, c .before .before .before .before .before .before .before .before .before .fill .kept .0))
 
--- src/setup.rt:74:5
 ask-requires-3 : tie.Need-ask-requires-3
 ask-requires-3 c κs = search needs
 
--- src/setup.rt:75:9
 slice-aggregate-ask-7 : tie.Need-slice-aggregate-ask-7
 slice-aggregate-ask-7 c = search needs
 
--- src/setup.rt:75:21
 slice-aggregate-ask-8 : tie.Need-slice-aggregate-ask-8
 slice-aggregate-ask-8 c = search needs
 
--- src/setup.rt:75:5
 ask-requires-4 : tie.Need-ask-requires-4
 ask-requires-4 c κs = search needs
 
--- src/setup.rt:69:1
 returns : tie.Need-returns
 returns c = search needs
 

@@ -3,8 +3,6 @@ use borrow.Author.Needs.{needs}
 use Prim.Native.Nat.{_≤_, _-_}
 use Rattle.vectors.proofs.split.payload.Statement.{statement}
 use Rattle.vectors.proofs.split.payload.Tie as tie
-use Rattle.vectors.proofs.split.payload.Reads as reads
-use Rattle.vectors.proofs.split.payload.Lts as lts
 
 abbrev Inv-loop : tie.InvT-loop
 Inv-loop m₀ j₀ m j = 0 ≤ j
@@ -12,43 +10,33 @@ Inv-loop m₀ j₀ m j = 0 ≤ j
 abbrev μ-loop : tie.MeasureT-loop
 μ-loop m₀ j₀ m j = 512 - j
 
--- src/split.rt:12:5
 loop-holds : tie.Need-loop-holds Inv-loop μ-loop
 loop-holds c = search needs
 
--- src/split.rt:13:27
 mul-m : tie.Need-mul-m Inv-loop μ-loop
 mul-m c = search needs
 
--- src/split.rt:13:27
 add-m : tie.Need-add-m Inv-loop μ-loop
 add-m c = search needs
 
--- src/split.rt:13:25
 cast-m : tie.Need-cast-m Inv-loop μ-loop
 cast-m c = search needs
 
--- src/split.rt:13:11
 add-m-2 : tie.Need-add-m-2 Inv-loop μ-loop
 add-m-2 c = search needs
 
--- src/split.rt:13:9
 element-write-m : tie.Need-element-write-m Inv-loop μ-loop
 element-write-m c = search needs
 
--- src/split.rt:14:9
 add-j : tie.Need-add-j Inv-loop μ-loop
 add-j c = search needs
 
--- src/split.rt:12:5
 loop-less : tie.Need-loop-less Inv-loop μ-loop
 loop-less c = search needs
 
--- src/split.rt:12:5
 loop-again : tie.Need-loop-again Inv-loop μ-loop
 loop-again c = search needs
 
--- src/split.rt:10:1
 returns : tie.Need-returns Inv-loop μ-loop
 returns c = search needs
 

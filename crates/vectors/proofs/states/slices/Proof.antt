@@ -3,11 +3,6 @@ use borrow.Author.Needs.{needs}
 use Prim.Native.Nat.{_≤_, _-_}
 use Rattle.vectors.proofs.states.slices.Statement.{statement}
 use Rattle.vectors.proofs.states.slices.Tie as tie
-use Rattle.vectors.proofs.states.slices.Reads as reads
-use Rattle.vectors.proofs.states.slices.Lts as lts
-use Rattle.vectors.proofs.states.slice_name.Reads as slice-name-reads
-use Rattle.vectors.proofs.states.step.Reads as step-reads
-use Rattle.vectors.proofs.states.told_more.Reads as told-more-reads
 
 abbrev Inv-loop : tie.InvT-loop
 Inv-loop m₀ b₀ s₀ i₀ t6 m b s i = 0 ≤ i
@@ -15,47 +10,36 @@ Inv-loop m₀ b₀ s₀ i₀ t6 m b s i = 0 ≤ i
 abbrev μ-loop : tie.MeasureT-loop
 μ-loop m₀ b₀ s₀ i₀ t6 m b s i = 5 - i
 
--- src/states.rt:96:5
 loop-holds : tie.Need-loop-holds Inv-loop μ-loop
 loop-holds c = search needs
 
--- src/states.rt:98:19
 slice-aggregate-told-more : tie.Need-slice-aggregate-told-more Inv-loop μ-loop
 slice-aggregate-told-more c = search needs
 
--- src/states.rt:98:9
 told-more-requires : tie.Need-told-more-requires Inv-loop μ-loop
 told-more-requires c κs = search needs
 
--- src/states.rt:99:9
 slice-name-requires : tie.Need-slice-name-requires Inv-loop μ-loop
 slice-name-requires c κs = search needs
 
--- src/states.rt:100:14
 slice-aggregate-step : tie.Need-slice-aggregate-step Inv-loop μ-loop
 slice-aggregate-step c = search needs
 
--- src/states.rt:100:26
 slice-aggregate-step-2 : tie.Need-slice-aggregate-step-2 Inv-loop μ-loop
 slice-aggregate-step-2 c = search needs
 
--- src/states.rt:100:9
 step-requires : tie.Need-step-requires Inv-loop μ-loop
 step-requires c κs = search needs
 
--- src/states.rt:101:9
 add-i : tie.Need-add-i Inv-loop μ-loop
 add-i c = search needs
 
--- src/states.rt:96:5
 loop-less : tie.Need-loop-less Inv-loop μ-loop
 loop-less c = search needs
 
--- src/states.rt:96:5
 loop-again : tie.Need-loop-again Inv-loop μ-loop
 loop-again c = search needs
 
--- src/states.rt:94:1
 returns : tie.Need-returns Inv-loop μ-loop
 returns c = search needs
 
