@@ -13,3 +13,4 @@ pub mod Inside
 pub mod SetUp
 pub mod Contracts
 pub mod Follow
+pub mod Enables

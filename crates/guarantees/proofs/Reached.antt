@@ -110,19 +110,19 @@ areas-placed rs size desc avail used q h =
         )
 
 -- the words after enabling
-queue-word : (s : List ℕ) (q : Queue) (chain stage start : ℕ) (j : ℕ) → 52 ≤ length s → j < 18
+pub queue-word : (s : List ℕ) (q : Queue) (chain stage start : ℕ) (j : ℕ) → 52 ≤ length s → j < 18
     → getD (queueSet s q chain stage start) (34 + j) 0 ≡ getD (q .size ∷ q .desc ∷ q .avail ∷ q .used ∷ chain ∷ stage ∷ start ∷ start ∷ rowWords (rowOf Poll)) j 0
 unfolding queueSet rowWords
 queue-word s q chain stage start j l h =
     put-in (set s 0 3) 34 (q .size ∷ q .desc ∷ q .avail ∷ q .used ∷ chain ∷ stage ∷ start ∷ start ∷ rowWords (rowOf Poll)) j h (rw (length-set s 0 3) (omega arith))
 
-queue-other : (s : List ℕ) (q : Queue) (chain stage start : ℕ) (i : ℕ) → 0 < i → i < 34 → getD (queueSet s q chain stage start) i 0 ≡ getD s i 0
+pub queue-other : (s : List ℕ) (q : Queue) (chain stage start : ℕ) (i : ℕ) → 0 < i → i < 34 → getD (queueSet s q chain stage start) i 0 ≡ getD s i 0
 unfolding queueSet
 queue-other s q chain stage start i h l =
     put-below (set s 0 3) 34 (q .size ∷ q .desc ∷ q .avail ∷ q .used ∷ chain ∷ stage ∷ start ∷ start ∷ rowWords (rowOf Poll)) i l
     ∙ getD-set-other s 0 i 3 0 (λ e. omega arith)
 
-queue-part : (s : List ℕ) (q : Queue) (chain stage start n : ℕ) → 3 + n ≤ 34 → part 3 n (queueSet s q chain stage start) ≡ part 3 n s
+pub queue-part : (s : List ℕ) (q : Queue) (chain stage start n : ℕ) → 3 + n ≤ 34 → part 3 n (queueSet s q chain stage start) ≡ part 3 n s
 unfolding queueSet
 queue-part s q chain stage start n h =
     part-put-other (set s 0 3) 3 n 34 (q .size ∷ q .desc ∷ q .avail ∷ q .used ∷ chain ∷ stage ∷ start ∷ start ∷ rowWords (rowOf Poll)) (first h)

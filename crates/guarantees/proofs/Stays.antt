@@ -53,7 +53,7 @@ row-tags (Publish k got) = refl
 row-tags (Broken reason head count) = refl
 
 -- all of `level`, from its parts
-tower-all : (a b c d e f : Bool) → a ≡ true → b ≡ false → c ≡ true → d ≡ false → e ≡ true → f ≡ true
+pub tower-all : (a b c d e f : Bool) → a ≡ true → b ≡ false → c ≡ true → d ≡ false → e ≡ true → f ≡ true
     → _≡_ {A = ℕ} (pick a (pick b 1 (pick c (pick d 2 (pick e (pick f 3 0) 0)) 0)) 0) 3
 tower-all a b c d e f p q r s t u = rw (p, q, r, s, t, u)
 
