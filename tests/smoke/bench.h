@@ -10,7 +10,7 @@
 #include <string.h>
 #include <sys/mman.h>
 #include <unistd.h>
-#include "hd.h"
+#include "hostiledisk.h"
 
 #define COUNT(a) (sizeof(a) / sizeof *(a))
 #define TOP UINT64_MAX
