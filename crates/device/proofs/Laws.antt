@@ -23,12 +23,11 @@ use Rattle.model.specs.declared.Place.{Place}
 use Rattle.model.specs.declared.Job.{Job}
 use Rattle.model.specs.declared.Phase.{Phase}
 use Rattle.model.specs.declared.Phase.the-variants.{Poll, Entry, Chain, Header, Payload, Answer, Publish, Broken}
-use Rattle.device.specs.Turn.{Fit, Went, Met, stateOf}
+use Rattle.device.specs.Turn.{Fit, Met, stateOf}
 use Rattle.device.specs.Fit.{HeaderFit, PayloadFit}
 use Rattle.device.specs.declared.Config.{Config}
 use Rattle.answer.specs.Fit.{AnswerFit}
 use Rattle.model.proofs.Sane.{header-ok, payload-ok, answer-ok, place-ok}
-use Rattle.device.specs.declared.Turned.{Turned}
 
 -- a number that is the whole fetched range
 pub word-all : (n k : ℕ) (m : List ℕ) → word n 0 (part k n m) ≡ word n k m
@@ -40,25 +39,16 @@ unfolding descAt
 desc-all k m =
     rw (word-part 8 0 k 16 m (omega arith), word-part 4 8 k 16 m (omega arith), word-part 2 12 k 16 m (omega arith), word-part 2 14 k 16 m (omega arith), add-zero k)
 
--- a step without an effect
-pub met-quiet : (c : Cfg) (t a : ℕ) (p : Phase) (mem backing chain stage : List ℕ) (r : Turned) (q : Phase)
+-- a step without an effect: the counters stay, and the answer goes by the phase
+pub met-quiet : (c : Cfg) (t a : ℕ) (p : Phase) (mem backing chain stage : List ℕ) (q : Phase)
     → effect chain stage p (fetched c (stateOf t a p) chain mem) ≡ nothing
-    → Went t a q r → q ≡ next c t chain stage p (fetched c (stateOf t a p) chain mem)
+    → q ≡ next c t chain stage p (fetched c (stateOf t a p) chain mem)
     → (chain₂ stage₂ : List ℕ) → chain₂ ≡ chained c chain p (fetched c (stateOf t a p) chain mem)
     → stage₂ ≡ staged chain stage p (fetched c (stateOf t a p) chain mem)
-    → Met (step c (stateOf t a p) mem backing chain stage) r mem backing chain₂ stage₂
+    → Met (step c (stateOf t a p) mem backing chain stage) t a q (codeAfter q) mem backing chain₂ stage₂
 unfolding step stepWith memStores diskStores counted codeOf apply shifted
-met-quiet c t a p mem backing chain stage r q e w n chain₂ stage₂ x y =
-    record {
-      taken-is = rw e (w .taken-is);
-      answered-is = rw e (w .answered-is);
-      phase-is = w .phase-is ∙ n;
-      code-is = rw (e, ← n) (w .code-is);
-      mem-is = rw e;
-      backing-is = rw e;
-      chain-is = x;
-      stage-is = y;
-    }
+met-quiet c t a p mem backing chain stage q e n chain₂ stage₂ x y =
+    record { taken-is = rw e; answered-is = rw e; phase-is = n; code-is = rw (e, ← n); mem-is = rw e; backing-is = rw e; chain-is = x; stage-is = y }
 
 -- S5's effect, by whether the payload ends there
 paid-counted : (b : Bool) (at : ℕ) (bs : List ℕ) (n : ℕ) → counted (pick b (stores at bs) nothing) n ≡ n
@@ -82,21 +72,21 @@ unfolding diskStores shifted
 paid-back true at bs d backing = refl
 paid-back false at bs d backing = refl
 
-pub met-paid : (c : Cfg) (t a : ℕ) (k : Walk) (p : Place) (sector got : ℕ) (mem backing chain stage : List ℕ) (r : Turned) (q : Phase) (stage₂ backing₂ : List ℕ)
-    → Went t a q r → q ≡ paid k p sector got (left chain p .len)
+pub met-paid : (c : Cfg) (t a : ℕ) (mem backing chain stage : List ℕ) (k : Walk) (p : Place) (sector got : ℕ) (q : Phase) (stage₂ backing₂ : List ℕ)
+    → q ≡ paid k p sector got (left chain p .len)
     → stage₂ ≡ pick (ends k got (left chain p .len)) stage (put stage got (part (left chain p .at) (left chain p .len) mem))
     → backing₂
     ≡ pick (ends k got (left chain p .len)) (put backing (c .disk .start + 512 * sector) (part 0 got stage ++ part (left chain p .at) (left chain p .len) mem)) backing
-    → Met (step c (stateOf t a (Payload k p sector got)) mem backing chain stage) r mem backing₂ chain stage₂
+    → Met (step c (stateOf t a (Payload k p sector got)) mem backing chain stage) t a q (codeAfter q) mem backing₂ chain stage₂
 unfolding step stepWith want next chained staged effect
-met-paid c t a k p sector got mem backing chain stage r q stage₂ backing₂ w n x y =
+met-paid c t a mem backing chain stage k p sector got q stage₂ backing₂ n x y =
     let b = ends k got (left chain p .len) in
     let bs = part 0 got stage ++ part (left chain p .at) (left chain p .len) mem in
     record {
-      taken-is = w .taken-is ∙ sym (paid-counted b (512 * sector) bs t);
-      answered-is = w .answered-is ∙ sym (paid-counted b (512 * sector) bs a);
-      phase-is = w .phase-is ∙ n;
-      code-is = rw (paid-code b (512 * sector) bs (paid k p sector got (left chain p .len)), ← n) (w .code-is);
+      taken-is = sym (paid-counted b (512 * sector) bs t);
+      answered-is = sym (paid-counted b (512 * sector) bs a);
+      phase-is = n;
+      code-is = rw (paid-code b (512 * sector) bs (paid k p sector got (left chain p .len)), ← n);
       mem-is = sym (paid-mem b (512 * sector) bs c a chain (diskOf (c .disk) backing) mem);
       backing-is = y ∙ sym (paid-back b (512 * sector) bs (c .disk .start) backing);
       chain-is = refl;
@@ -112,62 +102,47 @@ inside-more m n h (s ∷ ss) e =
     rw (le-leb (s .at + s .len) n (omega (arith, leb-true (s .at + s .len) m (a .0)))) (inside-more m n h ss (a .1))
 
 -- S1 to S7, one law each
-module _ (c : Cfg) (t a : ℕ) (mem backing chain stage : List ℕ) (r : Turned) where
-  pub met-poll : (q : Phase) → Went t a q r → q ≡ polled (c .queue .size) t (word 2 (c .queue .avail + 2) mem)
-      → Met (step c (stateOf t a Poll) mem backing chain stage) r mem backing chain stage
+module _ (c : Cfg) (t a : ℕ) (mem backing chain stage : List ℕ) where
+  pub met-poll : (q : Phase) → q ≡ polled (c .queue .size) t (word 2 (c .queue .avail + 2) mem)
+      → Met (step c (stateOf t a Poll) mem backing chain stage) t a q (codeAfter q) mem backing chain stage
   unfolding want next chained staged effect
-  met-poll q w n = met-quiet c t a Poll mem backing chain stage r q refl w (rw (word-all 2 (c .queue .avail + 2) mem) n) chain stage refl refl
+  met-poll q n = met-quiet c t a Poll mem backing chain stage q refl (rw (word-all 2 (c .queue .avail + 2) mem) n) chain stage refl refl
 
-  pub met-entry : (q : Phase) → Went t a q r → q ≡ headed (c .queue .size) (word 2 (c .queue .avail + (4 + 2 * (t % c .queue .size))) mem)
-      → Met (step c (stateOf t a Entry) mem backing chain stage) r mem backing chain stage
+  pub met-entry : (q : Phase) → q ≡ headed (c .queue .size) (word 2 (c .queue .avail + (4 + 2 * (t % c .queue .size))) mem)
+      → Met (step c (stateOf t a Entry) mem backing chain stage) t a q (codeAfter q) mem backing chain stage
   unfolding want next chained staged effect
-  met-entry q w n =
-      met-quiet c t a Entry mem backing chain stage r q refl w (rw (word-all 2 (c .queue .avail + (4 + 2 * (t % c .queue .size))) mem) n) chain stage refl refl
+  met-entry q n =
+      met-quiet c t a Entry mem backing chain stage q refl (rw (word-all 2 (c .queue .avail + (4 + 2 * (t % c .queue .size))) mem) n) chain stage refl refl
 
-  pub met-chain : (k : Walk) (cur : ℕ) (q : Phase) (chain₂ : List ℕ) → Went t a q r
+  pub met-chain : (k : Walk) (cur : ℕ) (q : Phase) (chain₂ : List ℕ)
       → q ≡ described k (descAt (c .queue .desc + 16 * cur) mem) (tested (c .map) (c .queue .size) k (descAt (c .queue .desc + 16 * cur) mem))
       → chain₂ ≡ keeps chain k (descAt (c .queue .desc + 16 * cur) mem) (tested (c .map) (c .queue .size) k (descAt (c .queue .desc + 16 * cur) mem))
-      → Met (step c (stateOf t a (Chain k cur)) mem backing chain stage) r mem backing chain₂ stage
+      → Met (step c (stateOf t a (Chain k cur)) mem backing chain stage) t a q (codeAfter q) mem backing chain₂ stage
   unfolding want next chained staged effect
-  met-chain k cur q chain₂ w n x =
+  met-chain k cur q chain₂ n x =
       let e = desc-all (c .queue .desc + 16 * cur) mem in
-      met-quiet c t a (Chain k cur) mem backing chain stage r q refl w (rw e n) chain₂ stage (rw e x) refl
+      met-quiet c t a (Chain k cur) mem backing chain stage q refl (rw e n) chain₂ stage (rw e x) refl
 
-  pub met-header : (k : Walk) (p : Place) (got : ℕ) (q : Phase) (stage₂ : List ℕ) → Went t a q r
+  pub met-header : (k : Walk) (p : Place) (got : ℕ) (q : Phase) (stage₂ : List ℕ)
       → stage₂ ≡ put stage got (part (left chain p .at) (lacks got (left chain p .len)) mem)
       → q ≡ gathered (c .disk) k p got (left chain p .len) (lacks got (left chain p .len)) (word 4 0 stage₂) (word 8 8 stage₂)
-      → Met (step c (stateOf t a (Header k p got)) mem backing chain stage) r mem backing chain stage₂
+      → Met (step c (stateOf t a (Header k p got)) mem backing chain stage) t a q (codeAfter q) mem backing chain stage₂
   unfolding want next chained staged effect
-  met-header k p got q stage₂ w x n = met-quiet c t a (Header k p got) mem backing chain stage r q refl w (rw (← x) n) chain stage₂ refl x
+  met-header k p got q stage₂ x n = met-quiet c t a (Header k p got) mem backing chain stage q refl (rw (← x) n) chain stage₂ refl x
 
-  pub met-answer : (k : Walk) (job : Job) (got : ℕ) (mem₂ : List ℕ) → Went t a (Publish k got) r
+  pub met-answer : (k : Walk) (job : Job) (got : ℕ) (mem₂ : List ℕ)
       → mem₂ ≡ apply (answerStores (c .id) (c .queue) a chain (diskOf (c .disk) backing) k job) mem
-      → Met (step c (stateOf t a (Answer k job got)) mem backing chain stage) r mem₂ backing chain stage
-  unfolding step stepWith want next chained staged effect memStores diskStores counted codeOf shifted
-  met-answer k job got mem₂ w x =
-      record {
-        taken-is = w .taken-is;
-        answered-is = w .answered-is;
-        phase-is = w .phase-is;
-        code-is = w .code-is;
-        mem-is = x;
-        backing-is = refl;
-        chain-is = refl;
-        stage-is = refl;
-      }
+      → Met (step c (stateOf t a (Answer k job got)) mem backing chain stage) t a (Publish k got) 1 mem₂ backing chain stage
+  unfolding step stepWith want next chained staged effect memStores diskStores counted codeOf codeAfter shifted
+  met-answer k job got mem₂ x =
+      record { taken-is = refl; answered-is = refl; phase-is = refl; code-is = refl; mem-is = x; backing-is = refl; chain-is = refl; stage-is = refl }
 
-  pub met-broken : (reason head count : ℕ) → Went t a (Broken reason head count) r
-      → Met (step c (stateOf t a (Broken reason head count)) mem backing chain stage) r mem backing chain stage
-  unfolding want next chained staged effect
-  met-broken reason head count w =
-      met-quiet c t a (Broken reason head count) mem backing chain stage r (Broken reason head count) refl w refl chain stage refl refl
-
-pub met-publish : (c : Cfg) (t a : ℕ) (mem backing chain stage : List ℕ) (k : Walk) (got x y : ℕ) (mem₂ : List ℕ) → x ≡ oneMore t → y ≡ oneMore a
-    → mem₂ ≡ put mem (c .queue .used + 2) (bytes 2 (oneMore a))
-    → Met (step c (stateOf t a (Publish k got)) mem backing chain stage) (record { taken = x; answered = y; phase = Poll; code = 2 }) mem₂ backing chain stage
-unfolding step stepWith want next chained staged effect memStores diskStores counted codeOf apply shifted
-met-publish c t a mem backing chain stage k got x y mem₂ p q e =
-    record { taken-is = p; answered-is = q; phase-is = refl; code-is = refl; mem-is = e; backing-is = refl; chain-is = refl; stage-is = refl }
+  pub met-publish : (k : Walk) (got x y : ℕ) (mem₂ : List ℕ) → x ≡ oneMore t → y ≡ oneMore a
+      → mem₂ ≡ put mem (c .queue .used + 2) (bytes 2 (oneMore a))
+      → Met (step c (stateOf t a (Publish k got)) mem backing chain stage) x y Poll 2 mem₂ backing chain stage
+  unfolding step stepWith want next chained staged effect memStores diskStores counted codeOf apply shifted
+  met-publish k got x y mem₂ p q e =
+      record { taken-is = p; answered-is = q; phase-is = refl; code-is = refl; mem-is = e; backing-is = refl; chain-is = refl; stage-is = refl }
 
 -- what S4, S5 and S6 stand on, from what every step stands on
 module _ (c : Config) (t a : ℕ) (map : List ℕ) (mem backing : ℕ) (chain : List ℕ) (stage : ℕ) where

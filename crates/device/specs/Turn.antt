@@ -5,12 +5,11 @@ use mathlib.Core.List.{List}
 use mathlib.Core.Path.{_≡_}
 use lib.ListN.{length}
 use Rattle.model.specs.Memory.{regions, sound}
-use Rattle.model.specs.Step.{Cfg, State, Out, codeAfter}
+use Rattle.model.specs.Step.{Cfg, State, Out}
 use Rattle.model.specs.Sane.{sane, ready}
 use Rattle.model.specs.declared.Phase.{Phase}
 use Rattle.answer.specs.Identity.{idBytes}
 use Rattle.device.specs.declared.Config.{Config}
-use Rattle.device.specs.declared.Turned.{Turned}
 
 -- the model's words for what the code holds
 abbrev pub cfgOf : Config → List ℕ → Cfg
@@ -36,19 +35,12 @@ pub record Fit (c : Config) (taken answered : ℕ) (p : Phase) (map : List ℕ) 
   pub sane-phase : sane (c .queue .size) (c .disk .sectors) p ≡ true
   pub ready-phase : ready (c .m) chain p ≡ true
 
--- the counters stay, and the answer goes by the phase
-pub record Went (taken answered : ℕ) (p : Phase) (r : Turned) : Type 0 where
-  pub taken-is : r .taken ≡ taken
-  pub answered-is : r .answered ≡ answered
-  pub phase-is : r .phase ≡ p
-  pub code-is : r .code ≡ codeAfter p
-
--- everything that a step leaves is the model's
-pub record Met (o : Out) (r : Turned) (mem backing chain stage : List ℕ) : Type 0 where
-  pub taken-is : r .taken ≡ o .state .taken
-  pub answered-is : r .answered ≡ o .state .answered
-  pub phase-is : r .phase ≡ o .state .phase
-  pub code-is : r .code ≡ o .code
+-- everything that a step leaves is the model's: the counters, the next phase, the answer, and the slices
+pub record Met (o : Out) (taken answered : ℕ) (p : Phase) (code : ℕ) (mem backing chain stage : List ℕ) : Type 0 where
+  pub taken-is : taken ≡ o .state .taken
+  pub answered-is : answered ≡ o .state .answered
+  pub phase-is : p ≡ o .state .phase
+  pub code-is : code ≡ o .code
   pub mem-is : mem ≡ o .mem
   pub backing-is : backing ≡ o .backing
   pub chain-is : chain ≡ o .chain

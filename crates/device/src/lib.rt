@@ -8,8 +8,7 @@ ghost use Rattle.model.specs.Bytes.{put, word, bytes};
 ghost use Rattle.model.specs.Memory.{regions, sound};
 ghost use Rattle.model.specs.Ring.{polled, headed, oneMore};
 ghost use Rattle.model.specs.Chain.{descAt, tested, described, keeps};
-ghost use Rattle.model.specs.Step.{codeAfter, step};
-ghost use Rattle.device.specs.Turn.{Fit, Went, Met, cfgOf, stateOf};
+ghost use Rattle.model.specs.Step.{codeAfter};
 use model::Disk;
 use model::Phase;
 use model::Queue;
@@ -27,16 +26,8 @@ pub struct Config {
     pub m: usize,
 }
 
-// What a step leaves: the counters, the next phase, and the answer.
-pub struct Turned {
-    pub taken: usize,
-    pub answered: usize,
-    pub phase: Phase,
-    pub code: usize,
-}
-
 // S1: idx of the available ring is fetched, and nothing else.
-fn poll(queue: Queue, taken: usize, mem: &[u8]) -> Phase
+pub fn poll(queue: Queue, taken: usize, mem: &[u8]) -> Phase
     requires { ⌜ queue .avail + 4 ≤ length (now mem) ⌝ }
     requires { ⌜ taken < 65536 ⌝ }
     ensures { λ r. ⌜ r ≡ polled (queue .size) taken (word 2 (queue .avail + 2) (now (mem .entry))) ⌝ }
@@ -46,7 +37,7 @@ fn poll(queue: Queue, taken: usize, mem: &[u8]) -> Phase
 }
 
 // S2: the entry is fetched in a step of its own, since a driver writes it before idx.
-fn entry(queue: Queue, taken: usize, mem: &[u8]) -> Phase
+pub fn entry(queue: Queue, taken: usize, mem: &[u8]) -> Phase
     requires { ⌜ 1 ≤ queue .size ⌝ }
     requires { ⌜ queue .avail + (6 + 2 * queue .size) ≤ length (now mem) ⌝ }
     ensures { λ r. ⌜ r ≡ headed (queue .size) (word 2 (queue .avail + (4 + 2 * (taken % queue .size))) (now (mem .entry))) ⌝ }
@@ -56,7 +47,7 @@ fn entry(queue: Queue, taken: usize, mem: &[u8]) -> Phase
 }
 
 // S3: one descriptor.
-fn descriptor(
+pub fn descriptor(
     queue: Queue,
     map: &[usize],
     m: usize,
@@ -82,7 +73,7 @@ fn descriptor(
 }
 
 // S7: idx of the used ring, alone.
-fn publish(queue: Queue, answered: usize, mem: &mut [u8])
+pub fn publish(queue: Queue, answered: usize, mem: &mut [u8])
     requires { ⌜ queue .used + 4 ≤ length (now mem) ⌝ }
     requires { ⌜ answered < 65536 ⌝ }
     ensures { λ _. ⌜ now (mem .exit) ≡ put (now (mem .entry)) (queue .used + 2) (bytes 2 (oneMore answered)) ⌝ }
@@ -90,7 +81,7 @@ fn publish(queue: Queue, answered: usize, mem: &mut [u8])
     ring::used_idx(mem, queue.used, ring::one_more(answered));
 }
 
-fn code_after(p: Phase) -> usize
+pub fn code_after(p: Phase) -> usize
     ensures { λ r. ⌜ r ≡ codeAfter p ⌝ }
 {
     match p {
@@ -102,81 +93,5 @@ fn code_after(p: Phase) -> usize
         Phase::Answer(_, _, _) => 1,
         Phase::Publish(_, _) => 1,
         Phase::Broken(_, _, _) => 3,
-    }
-}
-
-// A step that publishes nothing: the counters stay.
-fn went(taken: usize, answered: usize, p: Phase) -> Turned
-    ensures { λ r. ⌜ Went taken answered p r ⌝ }
-{
-    Turned {
-        taken,
-        answered,
-        phase: p,
-        code: code_after(p),
-    }
-}
-
-// One step. Each arm copies what it wants, hands it to a function that decides, or writes what was decided.
-pub fn turn(
-    c: Config,
-    taken: usize,
-    answered: usize,
-    p: Phase,
-    map: &[usize],
-    mem: &mut [u8],
-    backing: &mut [u8],
-    chain: &mut [usize],
-    stage: &mut [u8],
-) -> Turned
-    requires { ⌜ Fit c taken answered p (now map) (length (now mem)) (length (now backing)) (now chain) (length (now stage)) ⌝ }
-    ensures { λ r. ⌜ Met (step (cfgOf c (now (map .entry))) (stateOf taken answered p) (now (mem .entry)) (now (backing .entry)) (now (chain .entry)) (now (stage .entry))) r (now (mem .exit)) (now (backing .exit)) (now (chain .exit)) (now (stage .exit)) ⌝ }
-{
-    let q = c.queue;
-    let d = c.disk;
-    match p {
-        Phase::Poll => went(taken, answered, poll(q, taken, mem)),
-        Phase::Entry => went(taken, answered, entry(q, taken, mem)),
-        Phase::Chain(k, cur) => went(taken, answered, descriptor(q, map, c.m, k, cur, mem, chain)),
-        Phase::Header(k, at, got) => went(
-            taken,
-            answered,
-            gather::header(d, k, at, got, chain, mem, stage),
-        ),
-        Phase::Payload(k, at, s, got) => went(
-            taken,
-            answered,
-            gather::payload(d, k, at, s, got, chain, mem, stage, backing),
-        ),
-        Phase::Answer(k, job, got) => {
-            answer::reply(
-                q,
-                d,
-                c.id0,
-                c.id1,
-                c.id2,
-                answered,
-                k,
-                job,
-                chain,
-                backing,
-                mem,
-            );
-            went(taken, answered, Phase::Publish(k, got))
-        }
-        Phase::Publish(_, _) => {
-            publish(q, answered, mem);
-            Turned {
-                taken: ring::one_more(taken),
-                answered: ring::one_more(answered),
-                phase: Phase::Poll,
-                code: 2,
-            }
-        }
-        Phase::Broken(reason, head, count) => went(
-            taken,
-            answered,
-            Phase::Broken(reason, head, count),
-        ),
     }
 }

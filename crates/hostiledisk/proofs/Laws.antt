@@ -122,16 +122,6 @@ memory-few m ws e = go (both (eqb (length ws % 3) 0) (both (leb 1 (length ws / 3
         omega told
     go false t e = absurd (omega arith)
 
--- the lent chain memory holds a whole chain
-pub chain-room : (s : List ℕ) (mem backing chain stage : ℕ) → level s ≡ 3 → longEnough s mem backing chain stage ≡ true → 2 * getD s 34 0 ≤ chain
-unfolding longEnough
-chain-room s mem backing chain stage h l =
-    let q = level-three s h .queue .chain-long in
-    let a = both-split (leb (getD s 1 0) mem) _ l in
-    let b = both-split (leb (getD s 30 0) backing) _ (a .1) in
-    let c = both-split (leb (getD s 38 0) chain) _ (b .1) in
-    omega told
-
 -- a call that touches nothing
 pub untouched-is : (n : ℕ) (s mem backing chain stage : List ℕ) → StepIs (untouched n s mem backing chain stage) n s mem backing chain stage
 untouched-is n s mem backing chain stage =

@@ -11,7 +11,7 @@ use Rattle.model.specs.Memory.{regions, memoryCode}
 use Rattle.model.specs.Ring.{sizeOk, areas}
 use Rattle.model.specs.Request.{diskCode}
 use Rattle.model.specs.Step.{Out, step}
-use Rattle.model.specs.Sane.{ready}
+use Rattle.model.specs.Sane.{sane, ready}
 use Rattle.model.specs.declared.Areas.{Areas}
 use Rattle.model.specs.declared.Areas.the-variants.{Refused, Placed}
 use Rattle.model.specs.declared.Phase.{Phase}
@@ -19,7 +19,7 @@ use Rattle.model.specs.declared.Phase.the-variants.{Poll, Entry, Chain, Header,
 use Rattle.hostiledisk.specs.declared.Seen.{Seen}
 use Rattle.model.specs.declared.Queue.{Queue}
 use Rattle.device.specs.Turn.{cfgOf, stateOf}
-use Rattle.words.specs.Layout.{stateWords, rowOf, rowWords, rowAt, phaseOf, saved, configAt, mapWords, level}
+use Rattle.words.specs.Layout.{stateWords, rowOf, rowWords, rowAt, phaseOf, saved, configAt, mapWords, framed, level}
 
 -- what a set-up call answers, and the state afterwards
 pub record Set : Type 0 where
@@ -153,6 +153,17 @@ pub record Going (s : List ℕ) (p : Phase) (mem backing : ℕ) (chain : List �
   pub phase-is : p ≡ phaseOf (rowAt s)
   pub slices-long : longEnough s mem backing (length chain) stage ≡ true
   pub chain-ready : ready (getD s 1 0) chain p ≡ true
+
+-- what a phase's own function stands on: words that are an enabled queue's but for the phase, whose number this is, and slices that are long enough
+pub record Framed (s : List ℕ) (tag mem backing chain stage : ℕ) : Type 0 where
+  pub words-long : 52 ≤ length s
+  pub frame : framed s ≡ true
+  pub tag-is : getD s 42 0 ≡ tag
+  pub slices-long : longEnough s mem backing chain stage ≡ true
+
+-- "3 the queue is broken"; other words with no step to take are none that steps make
+unfoldable pub brokenCode : List ℕ → ℕ
+brokenCode s = pick (both (eqb (getD s 42 0) 8) (sane (getD s 34 0) 0 (Broken (getD s 48 0) (getD s 43 0) (getD s 44 0)))) 3 4
 
 -- hd_step: "4 refused: not enabled, or the state is not one that set-up and steps make · 3 the queue is broken (nothing touched)
 -- · 4 refused: a slice is shorter than set-up was told (nothing touched) · 0 · 1 · 2 · 3 broken in this step"

@@ -6,6 +6,7 @@ ghost use Prim.Native.Nat.{_≤_};
 ghost use lib.ListN.{length};
 ghost use Rattle.hostiledisk.specs.Calls.{chainWords, hdMemory, hdDisk, hdEnableAt, hdReset, hdStatus, hdStep, StepIs};
 
+pub mod arms;
 pub mod set_up;
 pub mod status;
 pub mod stepping;
@@ -179,16 +180,13 @@ pub extern "C" fn hd_step(
     if state.len() < 52 {
         return 4;
     }
-    if words::level(state) != 3 {
-        return 4;
-    }
-    let p = words::phase_of(words::row_at(state));
-    if stepping::is_broken(p) {
-        return 3;
-    }
-    if stepping::long_enough(state, mem.len(), backing.len(), chain.len(), stage.len()) {
-        if sane::ready(state[34], state[28], state[1], chain, p) {
-            return stepping::go(state, p, mem, backing, chain, stage);
+    if words::framed(state) {
+        let tag = state[42];
+        if 8 <= tag {
+            return stepping::broken(state);
+        }
+        if stepping::long_enough(state, mem.len(), backing.len(), chain.len(), stage.len()) {
+            return stepping::go(state, tag, mem, backing, chain, stage);
         }
         return 4;
     }

@@ -1,24 +1,25 @@
-// The tests before a step, and the step on lent words.
+// The tests before a step that are the same for each phase, and the way to the phase's own.
 ghost use mathlib.Core.Path.{_≡_};
 ghost use mathlib.Core.Bool.{true};
-ghost use Prim.Native.Nat.{_≤_};
+ghost use Prim.Native.Nat.{_≤_, _<_};
 ghost use lib.ListN.{length};
-ghost use Rattle.hostiledisk.specs.Calls.{isBroken, longEnough, steppedOn, Going, StepIs};
-use model::Phase;
+ghost use Rattle.words.specs.Layout.{framed};
+ghost use Rattle.hostiledisk.specs.Calls.{longEnough, brokenCode, hdStep, Framed, StepIs};
+use crate::arms;
 
-pub fn is_broken(p: Phase) -> bool
-    ensures { λ r. ⌜ r ≡ isBroken p ⌝ }
+// A queue that steps have broken answers 3, and stays as it is.
+pub fn broken(state: &[usize]) -> usize
+    requires { ⌜ 52 ≤ length (now state) ⌝ }
+    requires { ⌜ framed (now state) ≡ true ⌝ }
+    ensures { λ r. ⌜ r ≡ brokenCode (now (state .entry)) ⌝ }
 {
-    match p {
-        Phase::Poll => false,
-        Phase::Entry => false,
-        Phase::Chain(_, _) => false,
-        Phase::Header(_, _, _) => false,
-        Phase::Payload(_, _, _, _) => false,
-        Phase::Answer(_, _, _) => false,
-        Phase::Publish(_, _) => false,
-        Phase::Broken(_, _, _) => true,
+    if state[42] == 8 {
+        if sane::broken_sane(state[34], state[48], state[43], state[44]) {
+            return 3;
+        }
+        return 4;
     }
+    4
 }
 
 // Are the slices as long as set-up was told?
@@ -38,33 +39,39 @@ pub fn long_enough(state: &[usize], mem: usize, backing: usize, chain: usize, st
     state[39] <= stage
 }
 
-// The step itself, on a state that has passed every test.
+// The step itself: each phase's function tests its own words.
 pub fn go(
     state: &mut [usize],
-    p: Phase,
+    tag: usize,
     mem: &mut [u8],
     backing: &mut [u8],
     chain: &mut [usize],
     stage: &mut [u8],
 ) -> usize
-    requires { ⌜ Going (now state) p (length (now mem)) (length (now backing)) (now chain) (length (now stage)) ⌝ }
-    ensures { λ r. ⌜ StepIs (steppedOn (now (state .entry)) (now (mem .entry)) (now (backing .entry)) (now (chain .entry)) (now (stage .entry))) r (now (state .exit)) (now (mem .exit)) (now (backing .exit)) (now (chain .exit)) (now (stage .exit)) ⌝ }
+    requires { ⌜ Framed (now state) tag (length (now mem)) (length (now backing)) (length (now chain)) (length (now stage)) ⌝ }
+    requires { ⌜ tag < 8 ⌝ }
+    ensures { λ r. ⌜ StepIs (hdStep (now (state .entry)) (now (mem .entry)) (now (backing .entry)) (now (chain .entry)) (now (stage .entry))) r (now (state .exit)) (now (mem .exit)) (now (backing .exit)) (now (chain .exit)) (now (stage .exit)) ⌝ }
 {
-    let c = words::config_at(state);
-    let n = state[2];
-    let end = 3 + 3 * n;
-    let t = device::turn(
-        c,
-        state[40],
-        state[41],
-        p,
-        &state[3..end],
-        mem,
-        backing,
-        chain,
-        stage,
-    );
-    let next = t.phase;
-    words::save(state, t.taken, t.answered, next);
-    t.code
+    if tag == 3 {
+        return arms::descriptor(state, mem, backing, chain, stage);
+    }
+    if tag == 1 {
+        return arms::poll(state, mem, backing, chain, stage);
+    }
+    if tag == 2 {
+        return arms::entry(state, mem, backing, chain, stage);
+    }
+    if tag == 4 {
+        return arms::header(state, mem, backing, chain, stage);
+    }
+    if tag == 5 {
+        return arms::payload(state, mem, backing, chain, stage);
+    }
+    if tag == 6 {
+        return arms::answer(state, mem, backing, chain, stage);
+    }
+    if tag == 7 {
+        return arms::publish(state, mem, backing, chain, stage);
+    }
+    4
 }

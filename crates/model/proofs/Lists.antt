@@ -35,6 +35,13 @@ put-nil [] k = refl
 put-nil (x ∷ m) (suc k) = ap (λ (l : List ℕ). x ∷ l) (put-nil m k)
 put-nil (x ∷ m) zero = refl
 
+-- what is put where it lies already changes nothing
+pub put-same : (m : List ℕ) (k : ℕ) (bs : List ℕ) → k < length m → put m k (getD m k 0 ∷ bs) ≡ put m (suc k) bs
+unfolding put
+put-same [] k bs h = refl
+put-same (x ∷ m) (suc k) bs h = ap (λ (l : List ℕ). x ∷ l) (put-same m k bs (omega arith))
+put-same (x ∷ m) zero bs h = refl
+
 pub put-below : (m : List ℕ) (k : ℕ) (bs : List ℕ) (i : ℕ) → i < k → getD (put m k bs) i 0 ≡ getD m i 0
 unfolding put
 put-below [] k bs i h = refl

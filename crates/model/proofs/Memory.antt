@@ -1,5 +1,5 @@
 -- The laws of the memory map: what a located range is, what set-up's 0 tells, and how a loop over the words in threes goes.
-use Prim.Native.Nat.{ℕ, zero, suc, _+_, _-_, _^_, _/_, _%_, _≤_, _<_}
+use Prim.Native.Nat.{ℕ, zero, suc, _+_, _-_, _*_, _^_, _/_, _%_, _≤_, _<_}
 use native.Mathlib.Omega.{arith}
 use native.Mathlib.Numerals.{add-one, add-two, add-three, towards-suc}
 use native.Mathlib.Nat.{zero-add, suc-add, add-zero}
@@ -9,7 +9,7 @@ use mathlib.Core.List.{List, [], _∷_, _++_}
 use lib.ListN.{length, getD, take, drop, length-drop}
 use lib.Dec.{leb, ltb, eqb}
 use lib.Seq.{drop-cons}
-use borrow.Author.Tests.{leb-true, ltb-true, ltb-false, eqb-true, eqb-false, eq-eqb, ne-eqb, le-leb}
+use borrow.Author.Tests.{leb-true, ltb-true, ltb-false, eqb-true, eqb-false, eq-eqb, ne-eqb, le-leb, lt-leb}
 use Rattle.model.specs.Pick.{pick, both}
 use Rattle.model.specs.Memory.{Region, region, regions, regionCode, overlap, clash, regionsCode, memoryCode, sound, contains, locate}
 use Rattle.model.specs.declared.Found.{Found}
@@ -174,41 +174,50 @@ overlap-true g l h k p q e = split (ltb g h) refl e
     split true t e = record { address = h; in-first = omega told; in-second = omega told }
     split false t e = record { address = g; in-first = omega told; in-second = omega told }
 
--- A loop over the words: the invariant says that the rest has the whole's answer. A region that fits ends the search ..
-pub locate-hit : (ws : List ℕ) (i a n : ℕ) → i + 2 < length ws → contains (getD ws i 0) (getD ws (i + 1) 0) a n ≡ true
-    → locate (regions (drop i ws)) a n ≡ At (getD ws (i + 2) 0 + (a - getD ws i 0))
+-- A loop over the regions: the invariant says that the rest has the whole's answer.
+pub regions-from : (ws : List ℕ) (i : ℕ) → i < length ws / 3 → regions (drop (3 * i) ws) ≡ regionAt ws (3 * i) ∷ regions (drop (3 * (i + 1)) ws)
+regions-from ws i h = let e : 3 * (i + 1) ≡ 3 * i + 3 = omega arith in rw e (regions-turn ws (3 * i) (omega arith))
+
+pub regions-past : (ws : List ℕ) (i : ℕ) → length ws / 3 ≤ i → regions (drop (3 * i) ws) ≡ []
+regions-past ws i h = regions-end (drop (3 * i) ws) (simp length-drop (omega arith))
+
+-- A region that fits ends the search ..
+pub locate-hit : (ws : List ℕ) (i a n : ℕ) → i < length ws / 3 → contains (getD ws (3 * i) 0) (getD ws (3 * i + 1) 0) a n ≡ true
+    → locate (regions (drop (3 * i) ws)) a n ≡ At (getD ws (3 * i + 2) 0 + (a - getD ws (3 * i) 0))
 unfolding locate
-locate-hit ws i a n h t = rw (regions-turn ws i h, t)
+locate-hit ws i a n h t = rw (regions-from ws i h, t)
 
 -- .. one that does not is passed over ..
-pub locate-miss : (ws : List ℕ) (i a n : ℕ) → i + 2 < length ws → contains (getD ws i 0) (getD ws (i + 1) 0) a n ≡ false
-    → locate (regions (drop i ws)) a n ≡ locate (regions (drop (i + 3) ws)) a n
+pub locate-miss : (ws : List ℕ) (i a n : ℕ) → i < length ws / 3 → contains (getD ws (3 * i) 0) (getD ws (3 * i + 1) 0) a n ≡ false
+    → locate (regions (drop (3 * i) ws)) a n ≡ locate (regions (drop (3 * (i + 1)) ws)) a n
 unfolding locate
-locate-miss ws i a n h t = rw (regions-turn ws i h, t)
+locate-miss ws i a n h t = rw (regions-from ws i h, t)
 
 -- .. and there is none after the last
-pub locate-none : (ws : List ℕ) (i a n : ℕ) → length ws ≤ i + 2 → locate (regions (drop i ws)) a n ≡ Nothing
+pub locate-none : (ws : List ℕ) (i a n : ℕ) → length ws / 3 ≤ i → locate (regions (drop (3 * i) ws)) a n ≡ Nothing
 unfolding locate
-locate-none ws i a n h = rw (regions-end (drop i ws) (simp length-drop (omega arith)))
+locate-none ws i a n h = rw (regions-past ws i h)
 
-pub sound-turn : (m : ℕ) (ws : List ℕ) (i : ℕ) → i + 2 < length ws → sound m (regions (drop i ws)) ≡ true
-    → (regionCode m (regionAt ws i) ≡ 0) × (sound m (regions (drop (i + 3) ws)) ≡ true)
+-- no bytes are nowhere
+pub locate-empty : (rs : List Region) (a n : ℕ) → n < 1 → locate rs a n ≡ Nothing
+unfolding locate contains
+locate-empty [] a n h = refl
+locate-empty (r ∷ rest) a n h = rw (lt-leb 1 n h) (locate-empty rest a n h)
+
+pub sound-from : (m : ℕ) (ws : List ℕ) (i : ℕ) → i < length ws / 3
+    → sound m (regions (drop (3 * i) ws)) ≡ pick (eqb (regionCode m (regionAt ws (3 * i))) 0) (sound m (regions (drop (3 * (i + 1)) ws))) false
 unfolding sound
-sound-turn m ws i h s = sound-head (regionCode m (regionAt ws i)) (sound m (regions (drop (i + 3) ws))) (rw (regions-turn ws i h) at s)
+sound-from m ws i h = rw (regions-from ws i h)
 
-pub sound-miss : (m : ℕ) (ws : List ℕ) (i : ℕ) → i + 2 < length ws → (regionCode m (regionAt ws i) ≡ 0 → ⊥) → sound m (regions (drop i ws)) ≡ false
+pub sound-turn : (m : ℕ) (ws : List ℕ) (i : ℕ) → i < length ws / 3 → sound m (regions (drop (3 * i) ws)) ≡ true
+    → (regionCode m (regionAt ws (3 * i)) ≡ 0) × (sound m (regions (drop (3 * (i + 1)) ws)) ≡ true)
+sound-turn m ws i h s = sound-head (regionCode m (regionAt ws (3 * i))) (sound m (regions (drop (3 * (i + 1)) ws))) (sym (sound-from m ws i h) ∙ s)
+
+pub sound-none : (m : ℕ) (ws : List ℕ) (i : ℕ) → length ws / 3 ≤ i → sound m (regions (drop (3 * i) ws)) ≡ true
 unfolding sound
-sound-miss m ws i h n = rw (regions-turn ws i h, ne-eqb (regionCode m (regionAt ws i)) 0 n)
+sound-none m ws i h = rw (regions-past ws i h)
 
-pub sound-hit : (m : ℕ) (ws : List ℕ) (i : ℕ) → i + 2 < length ws → regionCode m (regionAt ws i) ≡ 0
-    → sound m (regions (drop i ws)) ≡ sound m (regions (drop (i + 3) ws))
-unfolding sound
-sound-hit m ws i h e = rw (regions-turn ws i h, eq-eqb (regionCode m (regionAt ws i)) 0 e)
-
-pub sound-none : (m : ℕ) (ws : List ℕ) (i : ℕ) → length ws ≤ i + 2 → sound m (regions (drop i ws)) ≡ true
-unfolding sound
-sound-none m ws i h = rw (regions-end (drop i ws) (simp length-drop (omega arith)))
-
+-- Set-up's loops go by words.
 pub clash-turn : (ws : List ℕ) (i g l : ℕ) → i + 2 < length ws
     → clash (regions (drop i ws)) g l ≡ pick (overlap g l (getD ws i 0) (getD ws (i + 1) 0)) true (clash (regions (drop (i + 3) ws)) g l)
 unfolding clash

@@ -2,6 +2,7 @@
 // Up to 8 regions, three words each in lent memory: guest address, length, offset in the slice.
 ghost use mathlib.Core.Path.{_≡_};
 ghost use Prim.Native.Nat.{_+_, _≤_};
+ghost use lib.Dec.{eqb};
 ghost use lib.ListN.{length};
 ghost use Rattle.model.specs.Bytes.{put};
 ghost use mathlib.Core.Bool.{true};
@@ -83,26 +84,33 @@ pub fn memory_code(m: usize, map: &[usize]) -> usize
     0
 }
 
+fn sound_one(m: usize, g: usize, l: usize, o: usize) -> bool
+    ensures { λ r. ⌜ r ≡ eqb (regionCode m (region g l o)) 0 ⌝ }
+{
+    region_code(m, g, l, o) == 0
+}
+
 // Is each region by itself one that set-up allows? What later calls test again of words that anybody may have spoilt.
+// This loop and the next one run in every step, and count regions: one number, where the words' places would be three.
 pub fn all_sound(m: usize, map: &[usize]) -> bool
     ensures { λ r. ⌜ r ≡ sound m (regions (now (map .entry))) ⌝ }
 {
+    let n = map.len() / 3;
     let mut i = 0;
-    while i + 2 < map.len() {
-        if region_code(m, map[i], map[i + 1], map[i + 2]) != 0 {
+    while i < n {
+        if sound_one(m, map[3 * i], map[3 * i + 1], map[3 * i + 2]) {
+            i += 1;
+        } else {
             return false;
         }
-        i += 3;
     }
     true
 }
 
 fn holds(g: usize, l: usize, a: usize, n: usize) -> bool
+    requires { ⌜ 1 ≤ n ⌝ }
     ensures { λ r. ⌜ r ≡ contains g l a n ⌝ }
 {
-    if n < 1 {
-        return false;
-    }
     if a < g {
         return false;
     }
@@ -121,13 +129,17 @@ pub fn locate(map: &[usize], m: usize, a: usize, n: usize) -> Found
     requires { ⌜ sound m (regions (now map)) ≡ true ⌝ }
     ensures { λ r. ⌜ r ≡ locate (regions (now (map .entry))) a n ⌝ }
 {
+    if n < 1 {
+        return Found::Nothing;
+    }
+    let count = map.len() / 3;
     let mut i = 0;
-    while i + 2 < map.len() {
-        let g = map[i];
-        if holds(g, map[i + 1], a, n) {
-            return Found::At(map[i + 2] + (a - g));
+    while i < count {
+        let g = map[3 * i];
+        if holds(g, map[3 * i + 1], a, n) {
+            return Found::At(map[3 * i + 2] + (a - g));
         }
-        i += 3;
+        i += 1;
     }
     Found::Nothing
 }
@@ -137,9 +149,9 @@ pub fn keep(held: &mut [usize], at: usize, words: &[usize])
     requires { ⌜ at + length (now words) ≤ length (now held) ⌝ }
     ensures { λ _. ⌜ now (held .exit) ≡ put (now (held .entry)) at (now (words .entry)) ⌝ }
 {
-    let mut i = 0;
-    while i < words.len() {
-        held[at + i] = words[i];
-        i += 1;
+    let mut j = 0;
+    while j < words.len() {
+        held[at + j] = words[j];
+        j += 1;
     }
 }

@@ -56,7 +56,7 @@ fn job_ok(sectors: usize, k: Walk, job: Job) -> bool
     }
 }
 
-fn chain_sane(q: usize, k: Walk, cur: usize) -> bool
+pub fn chain_sane(q: usize, k: Walk, cur: usize) -> bool
     requires { ⌜ q ≤ 256 ⌝ }
     ensures { λ z. ⌜ z ≡ sane q 0 (Phase.Chain k cur) ⌝ }
 {
@@ -66,7 +66,7 @@ fn chain_sane(q: usize, k: Walk, cur: usize) -> bool
     false
 }
 
-fn header_sane(q: usize, k: Walk, p: Place, got: usize) -> bool
+pub fn header_sane(q: usize, k: Walk, p: Place, got: usize) -> bool
     requires { ⌜ q ≤ 256 ⌝ }
     ensures { λ z. ⌜ z ≡ sane q 0 (Phase.Header k p got) ⌝ }
 {
@@ -82,7 +82,7 @@ fn header_sane(q: usize, k: Walk, p: Place, got: usize) -> bool
     false
 }
 
-fn payload_sane(q: usize, sectors: usize, k: Walk, p: Place, s: usize, got: usize) -> bool
+pub fn payload_sane(q: usize, sectors: usize, k: Walk, p: Place, s: usize, got: usize) -> bool
     requires { ⌜ q ≤ 256 ⌝ }
     ensures { λ z. ⌜ z ≡ sane q sectors (Phase.Payload k p s got) ⌝ }
 {
@@ -101,7 +101,7 @@ fn payload_sane(q: usize, sectors: usize, k: Walk, p: Place, s: usize, got: usiz
     false
 }
 
-fn answer_sane(q: usize, sectors: usize, k: Walk, job: Job, got: usize) -> bool
+pub fn answer_sane(q: usize, sectors: usize, k: Walk, job: Job, got: usize) -> bool
     requires { ⌜ q ≤ 256 ⌝ }
     ensures { λ z. ⌜ z ≡ sane q sectors (Phase.Answer k job got) ⌝ }
 {
@@ -114,7 +114,7 @@ fn answer_sane(q: usize, sectors: usize, k: Walk, job: Job, got: usize) -> bool
     false
 }
 
-fn publish_sane(q: usize, k: Walk, got: usize) -> bool
+pub fn publish_sane(q: usize, k: Walk, got: usize) -> bool
     requires { ⌜ q ≤ 256 ⌝ }
     ensures { λ z. ⌜ z ≡ sane q 0 (Phase.Publish k got) ⌝ }
 {
@@ -124,7 +124,7 @@ fn publish_sane(q: usize, k: Walk, got: usize) -> bool
     false
 }
 
-fn broken_sane(q: usize, reason: usize, head: usize, count: usize) -> bool
+pub fn broken_sane(q: usize, reason: usize, head: usize, count: usize) -> bool
     requires { ⌜ q ≤ 256 ⌝ }
     ensures { λ z. ⌜ z ≡ sane q 0 (Phase.Broken reason head count) ⌝ }
 {
@@ -157,7 +157,7 @@ pub fn sane(q: usize, sectors: usize, p: Phase) -> bool
     }
 }
 
-fn inside(m: usize, at: usize, len: usize) -> bool
+pub fn inside(m: usize, at: usize, len: usize) -> bool
     ensures { λ z. ⌜ z ≡ inside m at len ⌝ }
 {
     if m < len {
@@ -170,7 +170,7 @@ fn inside(m: usize, at: usize, len: usize) -> bool
 }
 
 // Do the buffers of the chain from `first` up to `end` lie in a slice of m bytes?
-fn all_inside(m: usize, chain: &[usize], first: usize, end: usize) -> bool
+pub fn all_inside(m: usize, chain: &[usize], first: usize, end: usize) -> bool
     requires { ⌜ 2 * end ≤ length (now chain) ⌝ }
     ensures { λ z. ⌜ z ≡ allInside m (spans (end - first) first (now (chain .entry))) ⌝ }
 {
@@ -185,7 +185,7 @@ fn all_inside(m: usize, chain: &[usize], first: usize, end: usize) -> bool
     true
 }
 
-fn place_ok(m: usize, chain: &[usize], p: Place) -> bool
+pub fn place_ok(m: usize, chain: &[usize], p: Place) -> bool
     requires { ⌜ 2 * p .buf + 1 < length (now chain) ⌝ }
     ensures { λ z. ⌜ z ≡ placeOk m (now (chain .entry)) p ⌝ }
 {
@@ -197,7 +197,7 @@ fn place_ok(m: usize, chain: &[usize], p: Place) -> bool
     false
 }
 
-fn payload_ready(m: usize, chain: &[usize], k: Walk, p: Place, got: usize) -> bool
+pub fn payload_ready(m: usize, chain: &[usize], k: Walk, p: Place, got: usize) -> bool
     requires { ⌜ 2 * p .buf + 1 < length (now chain) ⌝ }
     requires { ⌜ 16 < k .r ⌝ }
     requires { ⌜ got < k .r - 16 ⌝ }
@@ -213,7 +213,7 @@ fn payload_ready(m: usize, chain: &[usize], k: Walk, p: Place, got: usize) -> bo
     false
 }
 
-fn answer_ready(m: usize, chain: &[usize], k: Walk) -> bool
+pub fn answer_ready(m: usize, chain: &[usize], k: Walk) -> bool
     requires { ⌜ k .reads < k .count ⌝ }
     requires { ⌜ 2 * k .count ≤ length (now chain) ⌝ }
     ensures { λ z. ⌜ z ≡ ready m (now (chain .entry)) (Phase.Answer k Job.Failed 0) ⌝ }
@@ -223,22 +223,4 @@ fn answer_ready(m: usize, chain: &[usize], k: Walk) -> bool
         return 1 <= chain[2 * last + 1];
     }
     false
-}
-
-// Are the private chain's words that this step uses ones that steps make?
-pub fn ready(q: usize, sectors: usize, m: usize, chain: &[usize], p: Phase) -> bool
-    requires { ⌜ sane q sectors p ≡ true ⌝ }
-    requires { ⌜ 2 * q ≤ length (now chain) ⌝ }
-    ensures { λ z. ⌜ z ≡ ready m (now (chain .entry)) p ⌝ }
-{
-    match p {
-        Phase::Poll => true,
-        Phase::Entry => true,
-        Phase::Chain(_, _) => true,
-        Phase::Header(_, at, _) => place_ok(m, chain, at),
-        Phase::Payload(k, at, _, got) => payload_ready(m, chain, k, at, got),
-        Phase::Answer(k, _, _) => answer_ready(m, chain, k),
-        Phase::Publish(_, _) => true,
-        Phase::Broken(_, _, _) => true,
-    }
 }

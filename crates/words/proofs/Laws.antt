@@ -14,7 +14,7 @@ use Rattle.model.specs.Request.{diskCode}
 use Rattle.model.specs.Sane.{sane}
 use Rattle.model.proofs.Tests.{told, both-split}
 use Rattle.model.proofs.Ring.{size-range}
-use Rattle.words.specs.Layout.{mapWords, phaseOf, rowAt, memoryOk, diskOk, queueOk, lentOk, tagsOk, phaseOk, enabledOk, level}
+use Rattle.words.specs.Layout.{mapWords, phaseOf, rowAt, memoryOk, diskOk, queueOk, lentOk, tagsOk, phaseOk, enabledOk, framed, level}
 
 pub record QueueOk (s : List ℕ) : Type 0 where
   pub size-some : 1 ≤ getD s 34 0
@@ -49,3 +49,35 @@ queue-ok s e =
       taken-low = omega told;
       answered-low = omega told;
     }
+
+-- an enabled queue: what doesn't hang on the phase, and the phase
+pub level-framed : (s : List ℕ) → eqb (level s) 3 ≡ both (framed s) (phaseOk s)
+unfolding level framed enabledOk
+level-framed s = go (getD s 0 0) (eqb (getD s 0 0) 3) refl (memoryOk s) (diskOk s) (queueOk s) (phaseOk s)
+  where
+    other : (a b c d : Bool) (f : ℕ) → f ≡ 0 → eqb (pick a (pick b 1 (pick c (pick d 2 f) 0)) 0) 3 ≡ false
+    other true true c d f h = refl
+    other true false true true f h = refl
+    other true false true false f h = rw h
+    other true false false d f h = refl
+    other false b c d f h = refl
+
+    three : (a b c d : Bool) → eqb (pick a (pick b (pick (both c d) 3 0) 0) 0) 3 ≡ both (both a (both b c)) d
+    three true true true true = refl
+    three true true true false = refl
+    three true true false d = refl
+    three true false c d = refl
+    three false b c d = refl
+
+    go : (x : ℕ) (e : Bool) → eqb x 3 ≡ e → (a b c d : Bool)
+        → eqb (pick a (pick (eqb x 1) 1 (pick b (pick (eqb x 2) 2 (pick e (pick (both c d) 3 0) 0)) 0)) 0) 3 ≡ both (both e (both a (both b c))) d
+    go x true t a b c d = rw (eqb-true x 3 t) (three a b c d)
+    go x false t a b c d = other a (eqb x 1) b (eqb x 2) 0 refl
+
+pub framed-queue : (s : List ℕ) → framed s ≡ true → QueueOk s
+unfolding framed
+framed-queue s e =
+    let a = both-split (eqb (getD s 0 0) 3) _ e in
+    let b = both-split (memoryOk s) _ (a .1) in
+    let c = both-split (diskOk s) _ (b .1) in
+    queue-ok s (c .1)

@@ -3,11 +3,11 @@ use Prim.Native.Nat.{ℕ, _+_, _≤_, _<_}
 use mathlib.Core.List.{List, [], _∷_}
 use mathlib.Core.Path.{_≡_, refl, sym, _∙_, ap}
 use native.Mathlib.Omega.{arith}
-use lib.ListN.{getD, length}
+use lib.ListN.{getD, length, set}
 use Rattle.model.specs.Bytes.{put}
-use Rattle.model.proofs.Lists.{Apart, put-in, put-apart, length-put}
+use Rattle.model.proofs.Lists.{Apart, put-in, put-apart, put-cons, put-same, length-put}
 use Rattle.words.specs.declared.Row.{Row}
-use Rattle.words.specs.Layout.{jobTag, jobSector, jobOf, rowOf, phaseOf, rowAt, rowWords, saved}
+use Rattle.words.specs.Layout.{jobTag, jobSector, jobOf, rowOf, phaseOf, rowAt, rowWords, saved, kept}
 use Rattle.model.specs.declared.Job.{Job}
 use Rattle.model.specs.declared.Job.the-variants.{Failed, Unsupported, Done, Read, Write, Identity}
 use Rattle.model.specs.declared.Phase.{Phase}
@@ -32,6 +32,18 @@ phase-again (Payload k p s got) = refl
 phase-again (Answer k job got) = ap (λ (j : Job). Answer k j got) (job-again job)
 phase-again (Publish k got) = refl
 phase-again (Broken reason head count) = refl
+
+-- the counters first, then the phase's words
+pub saved-row : (s : List ℕ) (t a : ℕ) (p : Phase) (x : Row) → x ≡ rowOf p → put (set (set s 40 t) 41 a) 42 (rowWords x) ≡ saved s t a p
+unfolding saved
+saved-row s t a p x e =
+    rw e (sym (put-cons s 40 t (a ∷ rowWords (rowOf p)) ∙ put-cons (set s 40 t) 41 a (rowWords (rowOf p))))
+
+-- the counters lie there already
+pub kept-row : (s : List ℕ) (p : Phase) (x : Row) → 52 ≤ length s → x ≡ rowOf p → put s 42 (rowWords x) ≡ kept s p
+unfolding saved
+kept-row s p x h e =
+    rw e (sym (put-same s 40 (getD s 41 0 ∷ rowWords (rowOf p)) (omega arith) ∙ put-same s 41 (rowWords (rowOf p)) (omega arith)))
 
 -- word 40 + j of a saved state
 word-saved : (s : List ℕ) (t a : ℕ) (p : Phase) → 52 ≤ length s → (j : ℕ) → j < 12

@@ -16,6 +16,7 @@ use Rattle.model.specs.Ring.{sizeOk}
 use Rattle.model.specs.Request.{diskCode}
 use Rattle.model.specs.Sane.{sane}
 use Rattle.model.specs.declared.Walk.{Walk}
+use Rattle.model.specs.declared.Place.{Place}
 use Rattle.model.specs.declared.Job.{Job}
 use Rattle.model.specs.declared.Job.the-variants.{Failed, Unsupported, Done, Read, Write, Identity}
 use Rattle.model.specs.declared.Phase.{Phase}
@@ -99,6 +100,17 @@ rowWords x = x .tag ∷ x .head ∷ x .count ∷ x .reads ∷ x .r ∷ x .w ∷ 
 unfoldable pub saved : List ℕ → ℕ → ℕ → Phase → List ℕ
 saved s taken answered p = put s 40 (taken ∷ answered ∷ rowWords (rowOf p))
 
+-- .. with the counters that it has: most steps change the phase alone
+abbrev pub kept : List ℕ → Phase → List ℕ
+kept s p = saved s (getD s 40 0) (getD s 41 0) p
+
+-- the request at hand, and the place in its buffers
+abbrev pub walkAt : List ℕ → Walk
+walkAt s = record { head = getD s 43 0; count = getD s 44 0; reads = getD s 45 0; r = getD s 46 0; w = getD s 47 0 }
+
+abbrev pub placeAt : List ℕ → Place
+placeAt s = record { buf = getD s 48 0; skip = getD s 49 0 }
+
 -- the registered regions' words
 abbrev pub mapWords : List ℕ → List ℕ
 mapWords s = part 3 (3 * getD s 2 0) s
@@ -142,6 +154,10 @@ phaseOk s = both (tagsOk (getD s 42 0) (getD s 48 0)) (sane (getD s 34 0) (getD 
 
 unfoldable pub enabledOk : List ℕ → Bool
 enabledOk s = both (queueOk s) (phaseOk s)
+
+-- what of an enabled queue doesn't hang on the phase
+unfoldable pub framed : List ℕ → Bool
+framed s = both (eqb (getD s 0 0) 3) (both (memoryOk s) (both (diskOk s) (queueOk s)))
 
 -- how far set-up has come; words that set-up and steps don't make count as nothing
 unfoldable pub level : List ℕ → ℕ

@@ -4,8 +4,8 @@ ghost use mathlib.Core.Path.{_≡_};
 ghost use Prim.Native.Nat.{_+_, _*_, _≤_};
 ghost use lib.Dec.{leb};
 ghost use lib.ListN.{length, getD};
-ghost use Rattle.words.specs.Layout.{jobTag, jobSector, row, rowOf, jobOf, phaseOf, rowAt, saved, configAt, memoryOk, diskOk, queueOk, lentOk, tagsOk, phaseOk, enabledOk, level};
-use device::Config;
+ghost use Rattle.model.specs.Bytes.{put};
+ghost use Rattle.words.specs.Layout.{jobTag, jobSector, row, rowOf, jobOf, phaseOf, rowAt, rowWords, saved, kept, configAt, walkAt, placeAt, memoryOk, diskOk, queueOk, lentOk, tagsOk, phaseOk, enabledOk, framed, level};
 use model::Disk;
 use model::Job;
 use model::Phase;
@@ -53,7 +53,7 @@ fn job_sector(job: Job) -> usize
     }
 }
 
-fn job_of(tag: usize, s: usize) -> Job
+pub fn job_of(tag: usize, s: usize) -> Job
     ensures { λ z. ⌜ z ≡ jobOf tag s ⌝ }
 {
     if tag == 0 {
@@ -186,14 +186,10 @@ pub fn row_at(s: &[usize]) -> Row
     }
 }
 
-// The counters and the phase are all that steps change.
-pub fn save(s: &mut [usize], taken: usize, answered: usize, p: Phase)
+fn save_row(s: &mut [usize], x: Row)
     requires { ⌜ 52 ≤ length (now s) ⌝ }
-    ensures { λ _. ⌜ now (s .exit) ≡ saved (now (s .entry)) taken answered p ⌝ }
+    ensures { λ _. ⌜ now (s .exit) ≡ put (now (s .entry)) 42 (rowWords x) ⌝ }
 {
-    let x = row_of(p);
-    s[40] = taken;
-    s[41] = answered;
     s[42] = x.tag;
     s[43] = x.head;
     s[44] = x.count;
@@ -206,26 +202,76 @@ pub fn save(s: &mut [usize], taken: usize, answered: usize, p: Phase)
     s[51] = x.d;
 }
 
-pub fn config_at(s: &[usize]) -> Config
+// The counters and the phase are all that steps change.
+pub fn save(s: &mut [usize], taken: usize, answered: usize, p: Phase)
     requires { ⌜ 52 ≤ length (now s) ⌝ }
-    ensures { λ z. ⌜ z ≡ configAt (now (s .entry)) ⌝ }
+    ensures { λ _. ⌜ now (s .exit) ≡ saved (now (s .entry)) taken answered p ⌝ }
 {
-    Config {
-        queue: Queue {
-            size: s[34],
-            desc: s[35],
-            avail: s[36],
-            used: s[37],
-        },
-        disk: Disk {
-            start: s[27],
-            sectors: s[28],
-            ro: s[29],
-        },
-        id0: s[31],
-        id1: s[32],
-        id2: s[33],
-        m: s[1],
+    s[40] = taken;
+    s[41] = answered;
+    save_row(s, row_of(p));
+}
+
+// Most steps change the phase alone.
+pub fn save_phase(s: &mut [usize], p: Phase)
+    requires { ⌜ 52 ≤ length (now s) ⌝ }
+    ensures { λ _. ⌜ now (s .exit) ≡ kept (now (s .entry)) p ⌝ }
+{
+    save_row(s, row_of(p));
+}
+
+// The two phases that a long request stays in for many steps are saved without a choice by the phase.
+pub fn save_chain(s: &mut [usize], k: Walk, cur: usize)
+    requires { ⌜ 52 ≤ length (now s) ⌝ }
+    ensures { λ _. ⌜ now (s .exit) ≡ kept (now (s .entry)) (Phase.Chain k cur) ⌝ }
+{
+    save_row(s, numbers(3, k, cur, 0, 0, 0));
+}
+
+pub fn save_payload(s: &mut [usize], k: Walk, at: Place, sector: usize, got: usize)
+    requires { ⌜ 52 ≤ length (now s) ⌝ }
+    ensures { λ _. ⌜ now (s .exit) ≡ kept (now (s .entry)) (Phase.Payload k at sector got) ⌝ }
+{
+    save_row(s, numbers(5, k, at.buf, at.skip, sector, got));
+}
+
+pub fn queue_at(s: &[usize]) -> Queue
+    requires { ⌜ 52 ≤ length (now s) ⌝ }
+    ensures { λ z. ⌜ z ≡ configAt (now (s .entry)) .queue ⌝ }
+{
+    Queue {
+        size: s[34],
+        desc: s[35],
+        avail: s[36],
+        used: s[37],
+    }
+}
+
+pub fn disk_at(s: &[usize]) -> Disk
+    requires { ⌜ 52 ≤ length (now s) ⌝ }
+    ensures { λ z. ⌜ z ≡ configAt (now (s .entry)) .disk ⌝ }
+{
+    Disk {
+        start: s[27],
+        sectors: s[28],
+        ro: s[29],
+    }
+}
+
+pub fn walk_at(s: &[usize]) -> Walk
+    requires { ⌜ 52 ≤ length (now s) ⌝ }
+    ensures { λ z. ⌜ z ≡ walkAt (now (s .entry)) ⌝ }
+{
+    walk(s[43], s[44], s[45], s[46], s[47])
+}
+
+pub fn place_at(s: &[usize]) -> Place
+    requires { ⌜ 52 ≤ length (now s) ⌝ }
+    ensures { λ z. ⌜ z ≡ placeAt (now (s .entry)) ⌝ }
+{
+    Place {
+        buf: s[48],
+        skip: s[49],
     }
 }
 
@@ -341,6 +387,23 @@ fn enabled_ok(s: &[usize]) -> bool
 {
     if queue_ok(s) {
         return phase_ok(s);
+    }
+    false
+}
+
+// Is a queue enabled, as far as that doesn't hang on the phase? A step tests the rest by itself, for its own phase alone.
+pub fn framed(s: &[usize]) -> bool
+    requires { ⌜ 52 ≤ length (now s) ⌝ }
+    ensures { λ z. ⌜ z ≡ framed (now (s .entry)) ⌝ }
+{
+    if s[0] == 3 {
+        if memory_ok(s) {
+            if disk_ok(s) {
+                return queue_ok(s);
+            }
+            return false;
+        }
+        return false;
     }
     false
 }

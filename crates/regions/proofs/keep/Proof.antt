@@ -36,20 +36,20 @@ mul-held-2 c = search needs
 slice-write-held : tie.Need-slice-write-held Inv-loop μ-loop
 slice-write-held c = search needs
 
-add-i : tie.Need-add-i Inv-loop μ-loop
-add-i c = search needs
+add-j : tie.Need-add-j Inv-loop μ-loop
+add-j c = search needs
 
 loop-less : tie.Need-loop-less Inv-loop μ-loop
 loop-less c = search needs
 
 loop-again : tie.Need-loop-again Inv-loop μ-loop
-loop-again c = let a = c .before .before .before .args in let i = c .before .before .loop .i in let e = put-copy (now (a .held)) (a .at) (now (a .words)) 0 i (omega arith) in (search needs, simp length-set (omega arith), rw (c .before .before .loop .inv .2, add-one) (rw zero-add at e))
+loop-again c = let a = c .before .before .before .args in let i = c .before .before .loop .j in let e = put-copy (now (a .held)) (a .at) (now (a .words)) 0 i (omega arith) in (search needs, simp length-set (omega arith), rw (c .before .before .loop .inv .2, add-one) (rw zero-add at e))
 
 same-length : tie.Need-same-length Inv-loop μ-loop
 same-length c = search needs
 
 returns : tie.Need-returns Inv-loop μ-loop
-returns c = let e : c .before .loop .i ≡ length (now (c .before .before .args .words)) = omega arith in rw (part-all) at (rw e at (c .before .loop .inv .2))
+returns c = let e : c .before .loop .j ≡ length (now (c .before .before .args .words)) = omega arith in rw (part-all) at (rw e at (c .before .loop .inv .2))
 
 pub keep-spec : {M : Type 1} → statement M
 keep-spec =
@@ -63,7 +63,7 @@ keep-spec =
     add-held
     mul-held-2
     slice-write-held
-    add-i
+    add-j
     loop-less
     loop-again
     same-length

@@ -1,49 +1,11 @@
--- The words that passed every test give what `turn` stands on (`fit-of`); what it leaves is the model's step, and is saved.
-use native.Mathlib.Omega.{arith}
-use mathlib.Core.Path.{_≡_, refl, sym, _∙_, ap}
-use Rattle.hostiledisk.specs.Calls.{stepped, steppedOn, Going, hdStep, StepIs}
-use denote.Ref.{now}
-use lib.ListN.{getD}
-use Prim.Native.Nat.{_+_, _-_, _*_}
-use Rattle.hostiledisk.proofs.Laws.{level-three, chain-room, fit-of, untouched-is}
-use Rattle.model.specs.Bytes.{part}
+-- Each phase has its own function, whose contract is this one; the number 0 is no phase's.
+use Rattle.hostiledisk.proofs.Phases.{wild, tag-low}
 use borrow.Author.Needs.{needs}
 use Rattle.hostiledisk.proofs.stepping.go.Statement.{statement}
 use Rattle.hostiledisk.proofs.stepping.go.Tie as tie
 
-config-at-requires : tie.Need-config-at-requires
-config-at-requires c κs = search needs
-
-slice-read-n : tie.Need-slice-read-n
-slice-read-n c = search needs
-
-mul-end : tie.Need-mul-end
-mul-end c = omega (arith, level-three _ (c .before .before .before .before .before .before .before .before .pre .enabled) .memory .few)
-
-add-end : tie.Need-add-end
-add-end c = omega (arith, level-three _ (c .before .before .before .before .before .before .before .before .pre .enabled) .memory .few)
-
-slice-read-turn : tie.Need-slice-read-turn
-slice-read-turn c = search needs
-
-slice-read-turn-2 : tie.Need-slice-read-turn-2
-slice-read-turn-2 c = search needs
-
-sub-turn : tie.Need-sub-turn
-sub-turn c = search needs
-
-part-turn-start : tie.Need-part-turn-start
-part-turn-start c = search needs
-
-part-turn-end : tie.Need-part-turn-end
-part-turn-end c = omega (arith, level-three _ (c .before .before .before .before .before .before .before .before .before .before .before .pre .enabled) .memory .few, c .before .before .before .before .before .before .before .before .before .before .before .pre .words-long)
-
-turn-requires : tie.Need-turn-requires
-unfolding part
-turn-requires c κs = let n = getD (now (c .before .before .before .before .before .before .before .before .before .before .before .before .before .before .before .before .args .state)) 2 0 in let e : 3 + 3 * n - 3 ≡ 3 * n = omega arith in rw (c .before .before .before .before .before .before .before .before .before .config-at .ensures, e) (fit-of _ _ _ _ _ _ (c .before .before .before .before .before .before .before .before .before .before .before .before .before .before .before .before .pre))
-
-save-requires : tie.Need-save-requires
-save-requires c κs = search needs
+descriptor-requires : tie.Need-descriptor-requires
+descriptor-requires c κs = search needs
 
 same-length : tie.Need-same-length
 same-length c = search needs
@@ -61,27 +23,188 @@ same-length-5 : tie.Need-same-length-5
 same-length-5 c = search needs
 
 returns : tie.Need-returns
-unfolding part steppedOn stepped
-returns c = let n = getD (now (c .before .before .before .before .before .before .before .before .before .before .before .before .before .before .before .before .before .before .before .before .before .before .before .before .before .before .before .before .before .args .state)) 2 0 in let e : 3 + 3 * n - 3 ≡ 3 * n = omega arith in let m = rw (c .before .before .before .before .before .before .before .before .before .before .before .before .before .before .before .before .before .before .before .before .before .before .config-at .ensures, e, c .before .before .before .before .before .before .before .before .before .before .before .before .before .before .before .before .before .before .before .before .before .before .before .before .before .before .before .before .before .pre .phase-is) at (c .before .before .before .before .before .before .before .before .before .before .before .before .turn .ensures) in record { code-is = m .code-is; state-is = rw (c .before .before .save .ensures, m .taken-is, m .answered-is, m .phase-is); mem-is = m .mem-is; backing-is = m .backing-is; chain-is = m .chain-is; stage-is = m .stage-is }
+returns c = search needs
+
+poll-requires : tie.Need-poll-requires
+poll-requires c κs = search needs
+
+same-length-6 : tie.Need-same-length-6
+same-length-6 c = search needs
+
+same-length-7 : tie.Need-same-length-7
+same-length-7 c = search needs
+
+same-length-8 : tie.Need-same-length-8
+same-length-8 c = search needs
+
+same-length-9 : tie.Need-same-length-9
+same-length-9 c = search needs
+
+same-length-10 : tie.Need-same-length-10
+same-length-10 c = search needs
+
+returns-2 : tie.Need-returns-2
+returns-2 c = search needs
+
+entry-requires : tie.Need-entry-requires
+entry-requires c κs = search needs
+
+same-length-11 : tie.Need-same-length-11
+same-length-11 c = search needs
+
+same-length-12 : tie.Need-same-length-12
+same-length-12 c = search needs
+
+same-length-13 : tie.Need-same-length-13
+same-length-13 c = search needs
+
+same-length-14 : tie.Need-same-length-14
+same-length-14 c = search needs
+
+same-length-15 : tie.Need-same-length-15
+same-length-15 c = search needs
+
+returns-3 : tie.Need-returns-3
+returns-3 c = search needs
+
+header-requires : tie.Need-header-requires
+header-requires c κs = search needs
+
+same-length-16 : tie.Need-same-length-16
+same-length-16 c = search needs
+
+same-length-17 : tie.Need-same-length-17
+same-length-17 c = search needs
+
+same-length-18 : tie.Need-same-length-18
+same-length-18 c = search needs
+
+same-length-19 : tie.Need-same-length-19
+same-length-19 c = search needs
+
+same-length-20 : tie.Need-same-length-20
+same-length-20 c = search needs
+
+returns-4 : tie.Need-returns-4
+returns-4 c = search needs
+
+payload-requires : tie.Need-payload-requires
+payload-requires c κs = search needs
+
+same-length-21 : tie.Need-same-length-21
+same-length-21 c = search needs
+
+same-length-22 : tie.Need-same-length-22
+same-length-22 c = search needs
+
+same-length-23 : tie.Need-same-length-23
+same-length-23 c = search needs
+
+same-length-24 : tie.Need-same-length-24
+same-length-24 c = search needs
+
+same-length-25 : tie.Need-same-length-25
+same-length-25 c = search needs
+
+returns-5 : tie.Need-returns-5
+returns-5 c = search needs
+
+answer-requires : tie.Need-answer-requires
+answer-requires c κs = search needs
+
+same-length-26 : tie.Need-same-length-26
+same-length-26 c = search needs
+
+same-length-27 : tie.Need-same-length-27
+same-length-27 c = search needs
+
+same-length-28 : tie.Need-same-length-28
+same-length-28 c = search needs
+
+same-length-29 : tie.Need-same-length-29
+same-length-29 c = search needs
+
+same-length-30 : tie.Need-same-length-30
+same-length-30 c = search needs
+
+returns-6 : tie.Need-returns-6
+returns-6 c = search needs
+
+publish-requires : tie.Need-publish-requires
+publish-requires c κs = search needs
+
+same-length-31 : tie.Need-same-length-31
+same-length-31 c = search needs
+
+same-length-32 : tie.Need-same-length-32
+same-length-32 c = search needs
+
+same-length-33 : tie.Need-same-length-33
+same-length-33 c = search needs
+
+same-length-34 : tie.Need-same-length-34
+same-length-34 c = search needs
+
+same-length-35 : tie.Need-same-length-35
+same-length-35 c = search needs
+
+returns-7 : tie.Need-returns-7
+returns-7 c = search needs
+
+returns-8 : tie.Need-returns-8
+returns-8 c = let f = c .before .before .before .before .before .before .before .before .before .before .before .before .pre .0 in wild _ _ _ _ _ (f .words-long) (f .frame) (rw (f .tag-is) (tag-low _ _ (c .before .before .before .before .before .before .before .before .before .before .before .before .pre .1) (c .before .before .before .before .before .if2 .left) (c .before .before .before .before .if3 .left) (c .before .before .before .before .before .before .if1 .left) (c .before .before .before .if4 .left) (c .before .before .if5 .left) (c .before .if6 .left) (c .if7 .left)))
 
 pub go-spec : {M : Type 1} → statement M
 go-spec =
     tie.close
     (tie.spec
-    config-at-requires
-    slice-read-n
-    mul-end
-    add-end
-    slice-read-turn
-    slice-read-turn-2
-    sub-turn
-    part-turn-start
-    part-turn-end
-    turn-requires
-    save-requires
+    descriptor-requires
     same-length
     same-length-2
     same-length-3
     same-length-4
     same-length-5
-    returns)
+    returns
+    poll-requires
+    same-length-6
+    same-length-7
+    same-length-8
+    same-length-9
+    same-length-10
+    returns-2
+    entry-requires
+    same-length-11
+    same-length-12
+    same-length-13
+    same-length-14
+    same-length-15
+    returns-3
+    header-requires
+    same-length-16
+    same-length-17
+    same-length-18
+    same-length-19
+    same-length-20
+    returns-4
+    payload-requires
+    same-length-21
+    same-length-22
+    same-length-23
+    same-length-24
+    same-length-25
+    returns-5
+    answer-requires
+    same-length-26
+    same-length-27
+    same-length-28
+    same-length-29
+    same-length-30
+    returns-6
+    publish-requires
+    same-length-31
+    same-length-32
+    same-length-33
+    same-length-34
+    same-length-35
+    returns-7
+    returns-8)
