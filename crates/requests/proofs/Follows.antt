@@ -151,15 +151,15 @@ module _ (c : Cfg) (g : ℕ → List ℕ → List ℕ) (mems : ℕ → List ℕ)
   -- from a chain of which these buffers are held, at most f descriptors more
   unfoldable pub Takes : ℕ → Type 0
   Takes f =
-      (n : ℕ) (rs ws : List Span) (i : ℕ) (chain : List ℕ) (code : ℕ) → suc i ≡ 2 + (length rs + length ws) → f + (length rs + length ws) ≡ suc (c .queue .size)
+      (n : ℕ) (rs ws : List Span) (i : ℕ) (chain : List ℕ) (code : ℕ) → code ≡ 1 → suc i ≡ 2 + (length rs + length ws) → f + (length rs + length ws) ≡ suc (c .queue .size)
       → length rs + length ws ≤ c .queue .size → Held m (c .queue .size) chain rs ws → Goes (follow c (changing (c .queue) t mems) head f n rs ws)
       → Leads c g F (suc i) (out t a (Chain (walk head rs ws) n) (mems i) b chain stage code)
 
   one-more : Beside c g mems m → (f : ℕ) → Takes f → Takes (suc f)
   unfolding Takes Goes follow changing tested walk described keeps linked codeAfter
-  one-more e f ih n rs ws i chain code h s l hd k =
+  one-more e f ih n rs ws i chain code q h s l hd k =
       let d : Desc = descAt (c .queue .desc + 16 * n) (mems (2 + (length rs + length ws))) in
-      chain-turn c g mems F t a b i (walk head rs ws) n chain stage code (e .goes-on i) d (rw h)
+      chain-turn c g mems F t a b i (walk head rs ws) n chain stage code q (e .goes-on i) d (rw h)
       (go d (tested (c .map) (c .queue .size) (walk head rs ws) d) refl k)
     where
       more : ℕ → List Span → List Span → Followed
@@ -174,7 +174,7 @@ module _ (c : Cfg) (g : ℕ → List ℕ → List ℕ) (mems : ℕ → List ℕ)
           let r = leb-false (c .queue .size) (length rs + length ws) (p .some-left) in
           let z = j .longer in
           rw (j .tallied)
-          (ih (d .next) (j .reads) (j .writes) (suc i) (held chain (length rs + length ws) x (d .len)) 1 (omega arith) (omega arith) (omega arith) (j .held-is)
+          (ih (d .next) (j .reads) (j .writes) (suc i) (held chain (length rs + length ws) x (d .len)) 1 refl (omega arith) (omega arith) (omega arith) (j .held-is)
           (rw (j .next-is more) at k))
       go d (Last x) u k =
           let p = passed-last (leb (c .queue .size) (length rs + length ws)) _ _ _ _ _ _ x u in
@@ -184,5 +184,5 @@ module _ (c : Cfg) (g : ℕ → List ℕ → List ℕ) (mems : ℕ → List ℕ)
 
   pub takes-chain : Beside c g mems m → (f : ℕ) → Takes f
   unfolding Takes
-  takes-chain e zero n rs ws i chain code h s l hd k = absurd (omega arith)
-  takes-chain e (suc f) n rs ws i chain code h s l hd k = one-more e f (takes-chain e f) n rs ws i chain code h s l hd k
+  takes-chain e zero n rs ws i chain code q h s l hd k = absurd (omega arith)
+  takes-chain e (suc f) n rs ws i chain code q h s l hd k = one-more e f (takes-chain e f) n rs ws i chain code q h s l hd k
