@@ -1,0 +1,14 @@
+pub mod Lists
+pub mod Ranges
+pub mod Fits
+pub mod Stands
+pub mod Taken
+pub mod Header
+pub mod Read
+pub mod Kept
+pub mod Free
+pub mod Calls
+pub mod Trip
+pub mod Others
+pub mod Data
+pub mod Few
