@@ -1,0 +1,4 @@
+pub mod Until
+pub mod Exchange
+pub mod Round
+pub mod Honest
