@@ -1,11 +1,13 @@
 // The edges of document 01 §1 through the compiled code, one line for each: what was asked, and the answer.
 // `stdout` says what the document says; `crates/model/proofs/Edges.antt` has the same edges as theorems.
-// Then the worked examples of 01 §6 and 03 §6 through the C interface, byte for byte, each line named after its row.
+// Then the worked examples of 01 §6 and 03 §6 through the C interface, byte for byte, each line named after its row; then those that an honest
+// driver lays, by the driver.
 use crate::guest::Bytes;
 use crate::host::Stage;
 
 mod areas;
 mod bytes;
+mod driven;
 mod guest;
 mod host;
 mod ranges;
@@ -48,6 +50,13 @@ fn rows_03(mem: &mut Bytes, backing: &mut Bytes, stage: &mut Stage, disk: &Bytes
     split::out(mem, backing, stage, disk);
 }
 
+// 03 §7: the honest ones of them by the driver.
+fn rows_driven(mem: &mut Bytes, backing: &mut Bytes, stage: &mut Stage) {
+    driven::rows(mem, backing, stage);
+    driven::writes(mem, backing, stage);
+    driven::refused(mem, backing, stage);
+}
+
 // The C interface, §2.
 fn refused(mem: &mut Bytes, backing: &mut Bytes, stage: &mut Stage) {
     refusals::counts();
@@ -70,6 +79,7 @@ fn main() {
     let disk = backing;
     rows_01(&mut mem, &mut backing, &mut stage);
     rows_03(&mut mem, &mut backing, &mut stage, &disk);
+    rows_driven(&mut mem, &mut backing, &mut stage);
     refused(&mut mem, &mut backing, &mut stage);
     say::text(b"Bytes of guest memory that a row wrote where it may not:");
     areas::count(&mem, &[0xeeu8; 65536], 0, 65536);
