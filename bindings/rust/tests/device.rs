@@ -1,0 +1,259 @@
+//! The binding over the archive: the setting of 01 §6 and 03 §6, each answer as its enum, slices of every length.
+
+use hostiledisk::*;
+
+const GUEST: u64 = 0x8000_0000;
+const MEM: usize = 65_536;
+const QUEUE: Queue = Queue { size: 8, desc: GUEST + 0x1000, avail: GUEST + 0x2000, used: GUEST + 0x3000 };
+const WHOLE: Region = Region { guest: GUEST, len: MEM as u64, offset: 0 };
+const START: usize = 1537;
+const BACKING: usize = START + 64 * SECTOR_BYTES + 999;
+
+fn disk() -> Disk {
+    Disk { start: START as u64, sectors: 64, read_only: false, id: identity("SCRATCH-0007").unwrap() }
+}
+
+/// A device, the guest's memory, the backing slice.
+struct Bench {
+    device: Device,
+    mem: Vec<u8>,
+    backing: Vec<u8>,
+}
+
+impl Bench {
+    /// Memory and disk are registered, V1 is laid, no queue is enabled.
+    fn set_up(disk: &Disk) -> Bench {
+        let mut backing = vec![0xee; BACKING];
+        for i in 0..64 * SECTOR_BYTES {
+            backing[START + i] = (7 * i + i / 512) as u8; // 03 §6
+        }
+        let mut bench = Bench { device: Device::new(), mem: vec![0; MEM], backing };
+        bench.device.memory(&[WHOLE], MEM).unwrap();
+        bench.device.disk(disk, BACKING).unwrap();
+        bench.describe(0, 0x4000, 16, 1, 1);
+        bench.describe(1, 0x5000, 512, 3, 2);
+        bench.describe(2, 0x6000, 1, 2, 0);
+        bench.put(0x4008, &[3]);
+        bench.put(0x2000, &[0, 0, 1, 0, 0, 0]);
+        bench
+    }
+
+    fn enabled() -> Bench {
+        let mut bench = Bench::set_up(&disk());
+        bench.device.enable(&QUEUE).unwrap();
+        bench
+    }
+
+    fn put(&mut self, at: usize, bytes: &[u8]) {
+        self.mem[at..at + bytes.len()].copy_from_slice(bytes);
+    }
+
+    fn describe(&mut self, i: usize, offset: u64, len: u32, flags: u16, next: u16) {
+        let at = 0x1000 + 16 * i;
+        self.put(at, &(GUEST + offset).to_le_bytes());
+        self.put(at + 8, &len.to_le_bytes());
+        self.put(at + 12, &flags.to_le_bytes());
+        self.put(at + 14, &next.to_le_bytes());
+    }
+
+    fn step(&mut self) -> Step {
+        self.device.step(&mut self.mem, &mut self.backing)
+    }
+
+    /// Steps while they go on, at most 100.
+    fn run(&mut self) -> Step {
+        (0..100).map(|_| self.step()).find(|s| *s != Step::WentOn).expect("a request of at most 100 steps")
+    }
+}
+
+#[test]
+fn v1_step_by_step() {
+    use NextStep::*;
+    let mut bench = Bench::enabled();
+    for next in [Poll, Head, Descriptor, Descriptor, Descriptor, Header, Answer, Publish] {
+        assert_eq!(bench.device.status().next, Some(next));
+        let want = if next == Publish { Step::Answered } else { Step::WentOn };
+        assert_eq!(bench.step(), want);
+    }
+    assert_eq!(bench.mem[0x5000..0x5200], bench.backing[START + 3 * 512..START + 4 * 512]);
+    assert_eq!(bench.mem[0x3000..0x300c], [0, 0, 1, 0, 0, 0, 0, 0, 1, 2, 0, 0]);
+    assert_eq!(bench.step(), Step::Idle);
+    let want = Status { enabled: true, taken: 1, answered: 1, next: Some(Poll), ..Status::default() };
+    assert_eq!(bench.device.status(), want);
+}
+
+#[test]
+fn status_of_a_write() {
+    let mut bench = Bench::enabled();
+    bench.put(0x4000, &[1]);
+    bench.describe(1, 0x5000, 512, 1, 2);
+    bench.put(0x5000, &[0x77; 512]);
+    for _ in 0..6 {
+        assert_eq!(bench.step(), Step::WentOn);
+    }
+    let at_payload =
+        Status { enabled: true, next: Some(NextStep::Payload), descriptors: 3, bytes: 16, ..Status::default() };
+    assert_eq!(bench.device.status(), at_payload);
+    assert_eq!(bench.run(), Step::Answered);
+    assert_eq!(bench.backing[START + 3 * 512..START + 4 * 512], [0x77; 512]);
+    assert_eq!(bench.mem[0x3008], 1);
+}
+
+#[test]
+fn read_only_refuses_a_write() {
+    let mut bench = Bench::set_up(&Disk { read_only: true, ..disk() });
+    bench.device.enable(&QUEUE).unwrap();
+    bench.put(0x4000, &[1]);
+    bench.describe(1, 0x5000, 512, 1, 2);
+    let before = bench.backing.clone();
+    assert_eq!(bench.run(), Step::Answered);
+    assert_eq!((bench.mem[0x6000], bench.backing == before), (1, true));
+}
+
+#[test]
+fn identity_as_text() {
+    assert_eq!(identity(""), Some([0; 20]));
+    assert_eq!(identity("twenty bytes of text"), Some(*b"twenty bytes of text"));
+    assert_eq!(identity("twenty bytes of text."), None);
+    let mut bench = Bench::enabled();
+    bench.put(0x4000, &[8]);
+    bench.describe(1, 0x5000, 20, 3, 2);
+    assert_eq!(bench.run(), Step::Answered);
+    assert_eq!(&bench.mem[0x5000..0x5014], b"SCRATCH-0007\0\0\0\0\0\0\0\0");
+}
+
+#[test]
+fn every_reason() {
+    type Deed = fn(&mut Bench);
+    let rows: [(Reason, Deed); 8] = [
+        (Reason::Idx, |b| b.put(0x2002, &[9])),
+        (Reason::Index, |b| b.put(0x2004, &[8])),
+        (Reason::ChainLong, |b| b.describe(0, 0x4000, 16, 1, 0)),
+        (Reason::Flags, |b| b.describe(0, 0x4000, 16, 5, 1)),
+        (Reason::Empty, |b| b.describe(1, 0x5000, 0, 3, 2)),
+        (Reason::Memory, |b| b.describe(1, 0xfe01, 512, 3, 2)),
+        (Reason::ReadableLate, |b| b.describe(2, 0x6000, 1, 0, 0)),
+        (Reason::NoStatus, |b| b.describe(0, 0x4000, 16, 0, 0)),
+    ];
+    for (reason, spoil) in rows {
+        let mut bench = Bench::enabled();
+        spoil(&mut bench);
+        let (mem, backing) = (bench.mem.clone(), bench.backing.clone());
+        assert_eq!(bench.run(), Step::Broken(reason));
+        assert_eq!(bench.device.status().broken, Some(reason));
+        assert_eq!(bench.device.step(&mut [], &mut []), Step::Broken(reason)); // nothing is touched any more
+        assert!(mem == bench.mem && backing == bench.backing);
+        assert_eq!(bench.device.enable(&QUEUE), Err(EnableError::Order));
+        bench.device.reset();
+        assert_eq!((bench.device.status(), bench.step()), (Status::default(), Step::Refused));
+        assert_eq!(bench.device.enable(&QUEUE), Ok(()));
+        assert_eq!(bench.device.status().broken, None);
+    }
+}
+
+#[test]
+fn every_memory_error() {
+    let at = |guest, len, offset| Region { guest, len, offset };
+    let rows = [
+        (vec![], MemoryError::Count),
+        (vec![at(0, 1, 0); 9], MemoryError::Count),
+        (vec![at(GUEST, 0, 0)], MemoryError::Empty),
+        (vec![at(GUEST, 2, MEM as u64 - 1)], MemoryError::LeavesSlice),
+        (vec![at(GUEST, 2, u64::MAX)], MemoryError::LeavesSlice),
+        (vec![at(u64::MAX, 1, 0)], MemoryError::LeavesAddresses),
+        (vec![WHOLE, at(GUEST + MEM as u64 - 1, 1, 0)], MemoryError::Overlap),
+    ];
+    for (regions, error) in rows {
+        let mut bench = Bench::enabled();
+        assert_eq!(bench.device.memory(&regions, MEM), Err(error));
+        assert_eq!(bench.run(), Step::Answered); // the refusal changed nothing
+        assert_eq!(bench.device.memory(&[WHOLE], MEM), Ok(()));
+        assert_eq!(bench.step(), Step::Refused); // disk and queue are forgotten
+    }
+}
+
+#[test]
+fn every_disk_error() {
+    assert_eq!(Device::new().disk(&disk(), BACKING), Err(DiskError::Order));
+    let mut bench = Bench::set_up(&disk());
+    let with = |start, sectors| Disk { start, sectors, ..disk() };
+    assert_eq!(bench.device.disk(&with(0, 0), BACKING), Err(DiskError::Sectors));
+    assert_eq!(bench.device.disk(&with(0, SECTORS_MAX + 1), usize::MAX), Err(DiskError::Sectors));
+    assert_eq!(bench.device.disk(&with(u64::MAX, 1), BACKING), Err(DiskError::LeavesBacking));
+    assert_eq!(bench.device.disk(&with(BACKING as u64 - 511, 1), BACKING), Err(DiskError::LeavesBacking));
+    assert_eq!(bench.device.enable(&QUEUE), Ok(()));
+    assert_eq!(bench.device.disk(&disk(), BACKING), Err(DiskError::Order));
+    assert_eq!(bench.run(), Step::Answered);
+}
+
+#[test]
+fn every_enable_error() {
+    assert_eq!(Device::new().enable(&QUEUE), Err(EnableError::Order));
+    let mut bench = Bench::set_up(&disk());
+    let rows = [
+        (Queue { size: 0, ..QUEUE }, EnableError::Size),
+        (Queue { size: 2 * QUEUE_SIZE_MAX, ..QUEUE }, EnableError::Size),
+        (Queue { size: u64::MAX, ..QUEUE }, EnableError::Size),
+        (Queue { desc: QUEUE.desc + 8, ..QUEUE }, EnableError::Alignment),
+        (Queue { avail: GUEST - 2, ..QUEUE }, EnableError::Memory),
+        (Queue { used: QUEUE.desc, ..QUEUE }, EnableError::Overlap),
+    ];
+    for (queue, error) in rows {
+        assert_eq!(bench.device.enable(&queue), Err(error));
+    }
+    assert_eq!(bench.device.enable(&QUEUE), Ok(()));
+    assert_eq!(bench.device.enable(&QUEUE), Err(EnableError::Order));
+    assert_eq!(bench.run(), Step::Answered);
+}
+
+#[test]
+fn sizes_one_after_the_other() {
+    let mut bench = Bench::set_up(&disk());
+    for size in [1, 256, 2, 128, 8] {
+        assert_eq!(bench.device.enable(&Queue { size, ..QUEUE }), Ok(()));
+        let want = if size < 3 { Step::Broken(Reason::Index) } else { Step::Answered }; // V1's next are 1 and 2
+        assert_eq!(bench.run(), want, "size {size}");
+        bench.device.reset();
+    }
+}
+
+#[test]
+fn a_queue_taken_over() {
+    let mut bench = Bench::set_up(&disk());
+    bench.put(0x2002, &[0, 0]); // idx 0 follows 65,535: the wrap of 01 §6
+    bench.device.enable_at(&QUEUE, 65_535).unwrap();
+    assert_eq!(bench.device.status().answered, 65_535);
+    assert_eq!(bench.run(), Step::Answered);
+    assert_eq!((bench.device.status().taken, bench.device.status().answered), (0, 0));
+    assert_eq!(bench.mem[0x303c..0x3044], [0, 0, 0, 0, 1, 2, 0, 0]);
+}
+
+#[test]
+fn short_slices_are_refused_before_each_step() {
+    let mut bench = Bench::enabled();
+    for n in 0..8 {
+        assert_eq!(bench.device.step(&mut bench.mem[1..], &mut bench.backing), Step::Refused);
+        assert_eq!(bench.device.step(&mut bench.mem, &mut bench.backing[1..]), Step::Refused);
+        assert_eq!(bench.device.step(&mut [], &mut []), Step::Refused);
+        let want = if n == 7 { Step::Answered } else { Step::WentOn };
+        assert_eq!(bench.step(), want);
+    }
+}
+
+#[test]
+fn a_device_moves_to_another_thread() {
+    let mut bench = Bench::enabled();
+    assert_eq!(bench.step(), Step::WentOn);
+    let answer = std::thread::spawn(move || bench.run()).join().unwrap();
+    assert_eq!(answer, Step::Answered);
+}
+
+#[test]
+fn errors_speak() {
+    let said: Box<dyn std::error::Error> = EnableError::Size.into();
+    assert_eq!(said.to_string(), "queue refused: the size is not a power of two from 1 to 256 (25)");
+    assert_eq!(Reason::Empty.to_string(), "queue broken: a buffer of length 0 (5)");
+    assert_eq!(MemoryError::Other(99).to_string(), "memory refused: unknown code 99");
+    let shown = format!("{:?}", Device::new());
+    assert!(shown.starts_with("Device { status: Status { enabled: false") && shown.len() < 300, "{shown}");
+}
