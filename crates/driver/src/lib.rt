@@ -7,12 +7,12 @@
 //   nums   a word for each buffer of a request: scratch
 use model::Queue;
 
-pub mod form;
+mod form;
 pub mod laying;
-pub mod plan;
+mod plan;
 pub mod reading;
-pub mod room;
-pub mod writes;
+mod room;
+mod writes;
 
 // A queue's areas, the next available idx, and the used idx up to which answers have been read.
 pub struct Driver {
