@@ -13,6 +13,7 @@ static const struct shape shapes[] = {
     {"512 B, 3 descriptors", 1, 512},
     {"4 KiB, 3 descriptors", 1, 4096},
     {"64 KiB, 18 descriptors", 16, 4096},
+    {"3.5 KiB, 130 descriptors", 128, 28},  // the one whose copies have a tail
     {"63 KiB, 128 descriptors", 126, 512},
     {"504 KiB, 128 descriptors", 126, 4096},
 };
@@ -77,7 +78,7 @@ static void requests(size_t rounds, size_t largest)
     for (size_t i = 0; i < 2 * 2 * sizeof shapes / sizeof *shapes * 3; i++) {
         const size_t set = i % 3, regions = i / 3 % 2 ? REGIONS : 1, type = i / 6 % 2;
         const struct shape *s = shapes + i / 12;
-        if (sets[set] > largest) continue;
+        if (sets[set] > largest || (set > 0 && s->buffer < 64)) continue;  // tiny buffers in RAM are a cache miss each, and no more
         for (unsigned d = 0; d < DEVICES; d++) set_up(queues + d, (unsigned)regions);
         printf("%s\t%s\t%s\t%zu", type == OUT ? "write" : "read", s->name, set_names[set], regions);
         row(queues, load_of(s, (int)type, sets[set], DATA_AT), rounds, samples, &laid);

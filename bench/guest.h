@@ -19,15 +19,17 @@ static inline uint64_t next_of(struct order *o) { return o->at = (o->at * 0x5851
 struct load {
     const struct shape *shape;
     int type;                  // IN or OUT
-    size_t data, pitch;        // where data begins in the slice; bytes from a request's place on the disk to the next one's
+    size_t data;               // where it begins in the slice
+    size_t stride, pitch;      // bytes from a buffer's place to the next one's; on the disk, from a request's to the next one's
     struct order pages, slots; // of buffers, and of places on the disk
 };
 
 static inline struct load load_of(const struct shape *s, int type, size_t set, size_t data)
 {
-    size_t pitch = 512;
+    size_t stride = 1, pitch = 512;
+    while (stride < s->buffer) stride *= 2;
     while (pitch < payload_of(s)) pitch *= 2;
-    return (struct load){s, type, data, pitch, {1, set / s->buffer}, {1, set / pitch}};
+    return (struct load){s, type, data, stride, pitch, {1, set / stride}, {1, set / pitch}};
 }
 
 // What was laid: for each request its place on the disk, and its buffers' places in the slice.
@@ -54,7 +56,7 @@ static inline void lay_one(struct queue *q, struct load *l, struct laid *to, uns
     to->disk[k] = 512 * head[1];
     describe(q, first, q->areas_guest + HEADERS + HEADER * k, HEADER, NEXT);
     for (unsigned i = 0; i < s->buffers; i++) {
-        const size_t at = l->data + next_of(&l->pages) * s->buffer;
+        const size_t at = l->data + next_of(&l->pages) * l->stride;
         to->buffers[k * s->buffers + i] = at;
         describe(q, first + 1 + i, GUEST + at, s->buffer, l->type == IN ? NEXT | WRITE : NEXT);
     }

@@ -320,6 +320,7 @@ static uint64_t payload(struct device *d, const uint8_t *mem, const struct buffe
     if (WRONG == BYTE_TOO_MANY) has++;
     if (WRONG != PAYLOAD_IN_PIECES) memcpy(to, stage, staged);
     memcpy(to + staged, mem + at, has);
+    if (WRONG == TAIL_OVERLAPS && has > 8 && has % 8 > 0) memcpy(to + staged + has - 8, mem + at + has - 8, 8);
     return decided(d, DONE);
 }
 

@@ -12,6 +12,7 @@ enum {
     FLAGS_FETCHED_TWICE,       // trace: S3 reads the flags again to decide whether to go on (01 §7)
     IDX_FETCHED_TWICE,         // trace: S1 looks whether idx has moved, and reads it again to count
     PAYLOAD_FETCHED_TWICE,     // trace: S5 copies the last buffer to staging memory, then from the guest to the disk
+    TAIL_OVERLAPS,             // trace: S5 copies the last eight bytes as one number, some of which it has copied before
     STATUS_READ_BACK,          // trace: S6 takes the status for the length (03 §4) from the byte that it has just written
     COUNTED_IN_GUEST_MEMORY,   // smoke: S7 adds 1 to used idx as the guest has it, not to its own counter (01 §3)
 

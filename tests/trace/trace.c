@@ -99,6 +99,32 @@ static void over_4_gib(void)
     same("a request of over 4 GiB is answered", 2, steps_of_a_request()), same("with status 1", 1, mem[offset_of(STATUS, 1)]);
 }
 
+// A sector in two buffers, cut at every byte, written and read back: the copy goes by eights with a tail, and both begin at every
+// place of an eight.
+static void write_and_read(const struct span *buffers, uint64_t seed)
+{
+    uint8_t *first = mem + offset_of(buffers[1].at, buffers[1].len), *second = mem + offset_of(buffers[2].at, buffers[2].len);
+    const uint8_t *sector = backing + disk_start + 512 * 7;
+    for (uint64_t i = 0; i < buffers[1].len; i++) first[i] = (uint8_t)draw(&seed);
+    for (uint64_t i = 0; i < buffers[2].len; i++) second[i] = (uint8_t)draw(&seed);
+    set_up_queue(8, 0, 0);
+    for (unsigned type = 2; type-- > 0 && !failed;) {  // OUT, then IN into the same buffers
+        lay_in(0, 3, buffers, type ? 3 : 1), scrawl(HEADER, 8, type), scrawl(HEADER + 8, 8, 7), offer_one(1 - type);
+        if (!type) memset(first, 0, buffers[1].len), memset(second, 0, buffers[2].len);
+        same("a sector in two buffers is answered", 2, steps_of_a_request());
+        same_bytes("the sector's first bytes", sector, first, buffers[1].len);
+        same_bytes("the sector's last bytes", sector + buffers[1].len, second, buffers[2].len);
+    }
+}
+
+static void every_length(void)
+{
+    for (uint64_t n = 1; n < 512 && !failed; n++) {
+        const struct span buffers[] = {{HEADER, 16}, {DATA + n / 2 % 8, n}, {DATA + 1024 + n / 3 % 8, 512 - n}, {STATUS, 1}};
+        write_and_read(buffers, n);
+    }
+}
+
 // Slices with not a byte between them: where source and destination are close, copies may take another path. The header ends
 // where staging memory begins, and the disk ends where the data's last buffer begins.
 static void side_by_side(void)
@@ -140,7 +166,7 @@ int main(int argc, char **argv)
     signal(SIGSEGV, fault), signal(SIGBUS, fault);
     open_log(argv[1]), lend_world(0, SLICE, BACKED, LONGEST);
     worked_requests();
-    if (!failed) over_4_gib();
+    if (!failed) over_4_gib(), every_length();
     if (!failed) spoilt_chain(SPLIT), spoilt_state(draw(&numbers), 10);
     for (uint64_t i = 0; i < runs && !failed; i++) hostile_run(draw(&numbers), 200);
     if (!failed) side_by_side(), worked_requests();

@@ -9,7 +9,7 @@ use native.Mathlib.Nat.{add-zero, zero-add, add-suc, suc-add}
 use borrow.Author.Tests.{ltb-true, ltb-false, leb-true, leb-false, le-leb, lt-leb, eqb-true}
 use Rattle.model.proofs.Tests.{told, both-split}
 use Rattle.model.proofs.Ring.{size-range}
-use lib.Seq.{take-all, take-append-le, take-suc, take-nil, drop-cons}
+use lib.Seq.{take-all, take-append-le, take-suc, take-nil}
 use lib.Dec.{leb, ltb, eqb}
 use lib.ListN.{getD, length, take, drop, length-append, length-take}
 use Rattle.model.specs.Pick.{pick, both}
@@ -18,7 +18,7 @@ use Rattle.model.specs.Memory.{Region, overlap, sound}
 use Rattle.model.specs.Ring.{sizeOk}
 use Rattle.model.specs.declared.Queue.{Queue}
 use Rattle.model.specs.Step.{Span, Store, spans, buffer, apply, scatter}
-use Rattle.model.proofs.Lists.{put-put, put-nil, part-zero, part-all}
+use Rattle.model.proofs.Lists.{put-put, put-nil, part-zero, part-first, part-all}
 use Rattle.model.proofs.Words.{length-bytes}
 use Rattle.model.proofs.Step.{spans-turn, spans-end, apply-append}
 use Rattle.requests.specs.Serve.{total}
@@ -150,8 +150,7 @@ links-end bufs nums desc reads i e h = let p : e - i ≡ 0 = omega arith in rw p
 
 -- numbers of descriptors, one after the other
 pub part-turn : (nums : List ℕ) (i e : ℕ) → i < e → e ≤ length nums → part i (e - i) nums ≡ getD nums i 0 ∷ part (i + 1) (e - (i + 1)) nums
-unfolding part
-part-turn nums i e h l = let p : e - i ≡ suc (e - (i + 1)) = omega arith in rw (p, drop-cons nums i 0 (omega arith), add-one i)
+part-turn nums i e h l = let p : e - i ≡ suc (e - (i + 1)) = omega arith in rw (p, add-one i) (sym (part-first i (e - suc i) nums (omega arith)))
 
 pub part-end : (nums : List ℕ) (i e : ℕ) → e ≤ i → part i (e - i) nums ≡ []
 part-end nums i e h = let p : e - i ≡ 0 = omega arith in rw p (part-zero i nums)

@@ -145,6 +145,12 @@ part-more f i s h =
     let l : i < length (drop f s) = simp length-drop (omega arith) in
     rw (← (getD-drop f s i 0)) (sym (take-suc (drop f s) i 0 l))
 
+-- a part by its first element
+pub part-first : (k n : ℕ) (m : List ℕ) → k < length m → getD m k 0 ∷ part (suc k) n m ≡ part k (suc n) m
+unfolding part
+part-first zero n (x ∷ m) h = refl
+part-first (suc k) n (x ∷ m) h = part-first k n m (omega arith)
+
 pub part-add : (k a b : ℕ) (m : List ℕ) → part k a m ++ part (k + a) b m ≡ part k (a + b) m
 unfolding part
 part-add k a b m = rw (take-add a b (drop k m), drop-drop a k m)
@@ -173,6 +179,13 @@ put-copy m k s f i h =
     let e : length (part f i s) ≡ i = length-part f i s (omega arith) in
     let q : part f i s ++ (getD s (f + i) 0 ∷ []) ≡ part f (suc i) s = part-more f i s h in
     rw (← q) (rw e at (put-set m k (part f i s) (getD s (f + i) 0)))
+
+-- the same with b elements more
+pub put-more : (m : List ℕ) (k : ℕ) (s : List ℕ) (f a b : ℕ) → f + a ≤ length s
+    → put (put m k (part f a s)) (k + a) (part (f + a) b s) ≡ put m k (part f (a + b) s)
+put-more m k s f a b h =
+    let e : length (part f a s) ≡ a = length-part f a s h in
+    rw (← (part-add f a b s)) (rw e at (put-put m k (part f a s) (part (f + a) b s)))
 
 -- one store, then the rest behind it
 pub put-cons : (m : List ℕ) (k b : ℕ) (bs : List ℕ) → put m k (b ∷ bs) ≡ put (set m k b) (suc k) bs

@@ -6,7 +6,7 @@ use mathlib.Core.Path.{_≡_, refl, sym, ap, _∙_}
 use mathlib.Core.List.{List, [], _∷_, _++_}
 use lib.ListN.{length, getD}
 use Rattle.model.specs.Bytes.{put, part, word, bytes}
-use Rattle.model.proofs.Lists.{Apart, Disjoint, first, after, length-put, put-below, put-above, put-in, getD-part}
+use Rattle.model.proofs.Lists.{Apart, Disjoint, first, after, length-put, put-below, put-above, put-in, getD-part, part-zero, part-first}
 
 pub length-bytes : (n v : ℕ) → length (bytes n v) ≡ n
 unfolding bytes
@@ -64,3 +64,13 @@ word-add (suc a) b k m =
     let h : word (a + b) (suc k) m ≡ word a (suc k) m + 256 ^ a * word b (suc k + a) m = word-add a b (suc k) m in
     let e : suc k + a ≡ k + suc a = omega arith in
     rw (suc-add, pow-succ' 256 a, mul-assoc 256 (256 ^ a) (word b (k + suc a) m), h, e) (omega arith)
+
+-- the bytes of a number that was read are those that it was read from
+pub bytes-word : (n k : ℕ) (m : List ℕ) → ((i : ℕ) → getD m i 0 < 256) → k + n ≤ length m → bytes n (word n k m) ≡ part k n m
+unfolding bytes word
+bytes-word zero k m f h = sym (part-zero k m)
+bytes-word (suc n) k m f h =
+    let w = word n (suc k) m in
+    let a : (getD m k 0 + 256 * w) % 256 ≡ getD m k 0 = omega (arith, f k) in
+    let b : (getD m k 0 + 256 * w) / 256 ≡ w = omega (arith, f k) in
+    rw (a, b, bytes-word n (suc k) m f (omega arith)) (part-first k n m (omega arith))

@@ -54,3 +54,12 @@ pub fn copies() {
     moves::copy(src, 0, &mut dst, 0, 8);
     show(b"copy 8 from 0 to 0, all", &dst);
 }
+
+pub fn eights() {
+    let src = b"abcdefghijklmnopqrstuvwxyz";
+    let mut dst = [b'.'; 26];
+    moves::copy(src, 1, &mut dst, 2, 23);
+    show(b"copy 23 from 1 to 2, two eights and a tail of 7", &dst);
+    moves::copy(src, 10, &mut dst, 0, 16);
+    show(b"copy 16 from 10 to 0, two eights", &dst);
+}

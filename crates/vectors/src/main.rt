@@ -32,6 +32,7 @@ fn edges() {
     bytes::numbers32();
     bytes::numbers64();
     bytes::copies();
+    bytes::eights();
 }
 
 // 01 §6.

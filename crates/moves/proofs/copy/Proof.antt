@@ -1,65 +1,53 @@
--- After i turns the first i bytes of the source's part stand in the destination's.
+-- The eights and the tail, side by side, are the whole part: 8 * (n / 8) + n % 8 is n.
 use native.Mathlib.Omega.{arith}
 use borrow.Author.Needs.{needs}
-use Prim.Native.Nat.{_≤_, _+_, _-_}
-use mathlib.Core.Path.{_≡_, refl}
-use lib.ListN.{length, length-set}
-use native.Mathlib.Numerals.{add-one}
+use Prim.Native.Nat.{_+_, _*_, _/_, _%_}
+use mathlib.Core.Path.{_≡_}
 use denote.Ref.{now}
 use Rattle.model.specs.Bytes.{put, part}
-use Rattle.model.proofs.Lists.{put-nil, put-copy, part-zero}
+use Rattle.model.proofs.Lists.{put-more}
 use Rattle.moves.proofs.copy.Statement.{statement}
 use Rattle.moves.proofs.copy.Tie as tie
 
-abbrev Inv-loop : tie.InvT-loop
-Inv-loop src from dst₀ to n i₀ dst i = (i ≤ n) × (length dst ≡ length dst₀) × (dst ≡ put dst₀ to (part from i src))
+eights-requires : tie.Need-eights-requires
+eights-requires c κs = search needs
 
-abbrev μ-loop : tie.MeasureT-loop
-μ-loop src from dst₀ to n i₀ dst i = n - i
+mul-tail : tie.Need-mul-tail
+mul-tail c = search needs
 
-loop-holds : tie.Need-loop-holds Inv-loop μ-loop
-loop-holds c = (search needs, refl, simp (part-zero, put-nil))
+add-tail : tie.Need-add-tail
+add-tail c = search needs
 
-add-dst : tie.Need-add-dst Inv-loop μ-loop
-add-dst c = search needs
+mul-tail-2 : tie.Need-mul-tail-2
+mul-tail-2 c = search needs
 
-shared-slice-read-dst : tie.Need-shared-slice-read-dst Inv-loop μ-loop
-shared-slice-read-dst c = search needs
+add-tail-2 : tie.Need-add-tail-2
+add-tail-2 c = search needs
 
-add-dst-2 : tie.Need-add-dst-2 Inv-loop μ-loop
-add-dst-2 c = search needs
+tail-requires : tie.Need-tail-requires
+tail-requires c κs = search needs
 
-slice-write-dst : tie.Need-slice-write-dst Inv-loop μ-loop
-slice-write-dst c = search needs
-
-add-i : tie.Need-add-i Inv-loop μ-loop
-add-i c = search needs
-
-loop-less : tie.Need-loop-less Inv-loop μ-loop
-loop-less c = search needs
-
-loop-again : tie.Need-loop-again Inv-loop μ-loop
-loop-again c = let a = c .before .before .before .args in (search needs, simp length-set (omega arith), rw (c .before .before .loop .inv .2, add-one) (put-copy (now (a .dst)) (a .to) (now (a .src)) (a .from) (c .before .before .loop .i) (omega arith)))
-
-same-length : tie.Need-same-length Inv-loop μ-loop
+same-length : tie.Need-same-length
 same-length c = search needs
 
-returns : tie.Need-returns Inv-loop μ-loop
-returns c = let e : c .before .loop .i ≡ c .before .before .args .n = omega arith in rw e at (c .before .loop .inv .2)
+returns : tie.Need-returns
+returns c =
+    let at = c .before .before .before .before .before .before in
+    let a = at .before .before .before .before .args in
+    let n = a .n in
+    let e : 8 * (n / 8) + n % 8 ≡ n = omega arith in
+    rw (c .before .before .tail .ensures, at .eights .ensures)
+    (rw e at (put-more (now (a .dst)) (a .to) (now (a .src)) (a .from) (8 * (n / 8)) (n % 8) (omega arith)))
 
 pub copy-spec : {M : Type 1} → statement M
 copy-spec =
     tie.close
     (tie.spec
-    Inv-loop
-    μ-loop
-    loop-holds
-    add-dst
-    shared-slice-read-dst
-    add-dst-2
-    slice-write-dst
-    add-i
-    loop-less
-    loop-again
+    eights-requires
+    mul-tail
+    add-tail
+    mul-tail-2
+    add-tail-2
+    tail-requires
     same-length
     returns)
