@@ -81,12 +81,13 @@ void lay(const struct request *r);  // descriptors, header and data, available e
 
 // ---- serve.c: the host's half
 
-struct outcome { uint64_t answer, reason, status, len; };
+struct outcome { uint64_t answer, reason, status, len, at; };  // at: of a broken queue, the descriptor; else 0
 typedef void meddler(const uint64_t *status);  // what the guest does before a step, knowing what the device is at
 
 const char *run_steps(const struct request *asked, struct outcome want, meddler *meddle, struct outcome *got);
 // .. and compares every byte, and the outcome
 const char *serve(const struct request *asked, struct outcome want, meddler *meddle, struct outcome *got);
+void note_break(const uint64_t *status, struct outcome *got);  // why and where, if the queue is broken
 bool same_outcome(struct outcome a, struct outcome b);
 const char *said(struct outcome o);
 

@@ -121,8 +121,8 @@ static void idx_changes(const uint64_t *status)
 
 // ---- the gallery
 
-#define ANSWERED(status, len) {HD_STEP_ANSWERED, 0, status, len}
-#define BROKEN(reason) {HD_STEP_BROKEN, reason, 0, 0}
+#define ANSWERED(status, len) {HD_STEP_ANSWERED, 0, status, len, 0}
+#define BROKEN(reason, at) {HD_STEP_BROKEN, reason, 0, 0, at}
 struct poke { uint64_t at; unsigned n; uint64_t value; };
 static const struct attack {
     const char *name, *deed;
@@ -151,38 +151,38 @@ static const struct attack {
     {"all of memory changes", "before each step every other byte of memory is replaced",
         ANSWERED(0, 513), .asks = read_sector, .meddle = all_changes},
     {"reset in mid-write", "the driver resets the device before the last piece was read",
-        {HD_STEP_REFUSED, 0, 0, 0}, .asks = write_in_pieces, .meddle = reset_midway},
+        {HD_STEP_REFUSED, 0, 0, 0, 0}, .asks = write_in_pieces, .meddle = reset_midway},
     // 01 §3: chains and rings that are wrong
-    {"idx ahead of the ring", "idx 9 in a ring of 8", BROKEN(HD_REASON_IDX), .asks = read_sector, .pokes = {{AVAIL + 2, 2, 9}}},
-    {"idx behind", "idx 65,535 where 0 were taken", BROKEN(HD_REASON_IDX), .asks = read_sector, .pokes = {{AVAIL + 2, 2, 65535}}},
-    {"head out of range", "entry 8 in a queue of 8", BROKEN(HD_REASON_INDEX), .asks = read_sector, .pokes = {{AVAIL + 4, 2, 8}}},
-    {"head far out of range", "entry 65,535", BROKEN(HD_REASON_INDEX), .asks = read_sector, .pokes = {{AVAIL + 4, 2, 65535}}},
-    {"next out of range", "descriptor 0 goes on to 8", BROKEN(HD_REASON_INDEX), .asks = read_sector, .pokes = {{D(0) + 14, 2, 8}}},
+    {"idx ahead of the ring", "idx 9 in a ring of 8", BROKEN(HD_REASON_IDX, HD_NO_DESCRIPTOR), .asks = read_sector, .pokes = {{AVAIL + 2, 2, 9}}},
+    {"idx behind", "idx 65,535 where 0 were taken", BROKEN(HD_REASON_IDX, HD_NO_DESCRIPTOR), .asks = read_sector, .pokes = {{AVAIL + 2, 2, 65535}}},
+    {"head out of range", "entry 8 in a queue of 8", BROKEN(HD_REASON_INDEX, HD_NO_DESCRIPTOR), .asks = read_sector, .pokes = {{AVAIL + 4, 2, 8}}},
+    {"head far out of range", "entry 65,535", BROKEN(HD_REASON_INDEX, HD_NO_DESCRIPTOR), .asks = read_sector, .pokes = {{AVAIL + 4, 2, 65535}}},
+    {"next out of range", "descriptor 0 goes on to 8", BROKEN(HD_REASON_INDEX, 0), .asks = read_sector, .pokes = {{D(0) + 14, 2, 8}}},
     {"chain bites its tail", "descriptor 2 goes on to 1",
-        BROKEN(HD_REASON_CHAIN_LONG), .asks = read_sector, .pokes = {{D(2) + 12, 2, NEXT | WRITE}, {D(2) + 14, 2, 1}}},
+        BROKEN(HD_REASON_CHAIN_LONG, 2), .asks = read_sector, .pokes = {{D(2) + 12, 2, NEXT | WRITE}, {D(2) + 14, 2, 1}}},
     {"chain of q + 1", "a chain of 8 goes on to 1, which has become the last",
-        BROKEN(HD_REASON_CHAIN_LONG), .asks = read_in_eight, .pokes = {{D(7) + 12, 2, NEXT | WRITE}, {D(7) + 14, 2, 1}}, .meddle = ends_after_nine},
+        BROKEN(HD_REASON_CHAIN_LONG, 1), .asks = read_in_eight, .pokes = {{D(7) + 12, 2, NEXT | WRITE}, {D(7) + 14, 2, 1}}, .meddle = ends_after_nine},
     {"chain of one, for ever", "descriptor 0 goes on to itself",
-        BROKEN(HD_REASON_CHAIN_LONG), .asks = read_sector, .pokes = {{D(0) + 14, 2, 0}}},
+        BROKEN(HD_REASON_CHAIN_LONG, 0), .asks = read_sector, .pokes = {{D(0) + 14, 2, 0}}},
     {"indirect", "flag 4, which was not negotiated",
-        BROKEN(HD_REASON_FLAGS), .asks = read_sector, .pokes = {{D(0) + 12, 2, NEXT | INDIRECT}}},
-    {"unknown flags", "flags 0xfff9", BROKEN(HD_REASON_FLAGS), .asks = read_sector, .pokes = {{D(0) + 12, 2, 0xfff9}}},
-    {"empty buffer", "len 0", BROKEN(HD_REASON_EMPTY), .asks = read_sector, .pokes = {{D(1) + 8, 4, 0}}},
+        BROKEN(HD_REASON_FLAGS, 0), .asks = read_sector, .pokes = {{D(0) + 12, 2, NEXT | INDIRECT}}},
+    {"unknown flags", "flags 0xfff9", BROKEN(HD_REASON_FLAGS, 0), .asks = read_sector, .pokes = {{D(0) + 12, 2, 0xfff9}}},
+    {"empty buffer", "len 0", BROKEN(HD_REASON_EMPTY, 1), .asks = read_sector, .pokes = {{D(1) + 8, 4, 0}}},
     {"past memory", "a buffer that ends one byte behind its region",
-        BROKEN(HD_REASON_MEMORY), .asks = read_sector, .pokes = {{D(1), 8, LOW + LOW_BYTES - 511}}},
+        BROKEN(HD_REASON_MEMORY, 1), .asks = read_sector, .pokes = {{D(1), 8, LOW + LOW_BYTES - 511}}},
     {"before memory", "a buffer that begins one byte before its region",
-        BROKEN(HD_REASON_MEMORY), .asks = read_sector, .pokes = {{D(1), 8, HIGH - 1}}},
+        BROKEN(HD_REASON_MEMORY, 1), .asks = read_sector, .pokes = {{D(1), 8, HIGH - 1}}},
     {"address + length wraps", "a buffer of 512 bytes at 2^64 - 1",
-        BROKEN(HD_REASON_MEMORY), .asks = read_sector, .pokes = {{D(1), 8, TOP}}},
+        BROKEN(HD_REASON_MEMORY, 1), .asks = read_sector, .pokes = {{D(1), 8, TOP}}},
     {"from region to region", "first and last byte are in memory, what lies between is not",
-        BROKEN(HD_REASON_MEMORY), .asks = read_sector, .pokes = {{D(1), 8, LOW + LOW_BYTES - 256}, {D(1) + 8, 4, HIGH - LOW - LOW_BYTES + 512}}},
+        BROKEN(HD_REASON_MEMORY, 1), .asks = read_sector, .pokes = {{D(1), 8, LOW + LOW_BYTES - 256}, {D(1) + 8, 4, HIGH - LOW - LOW_BYTES + 512}}},
     {"address 4 GiB off", "a good address + 2^32",
-        BROKEN(HD_REASON_MEMORY), .asks = read_sector, .pokes = {{D(1), 8, DATA + (UINT64_C(1) << 32)}}},
+        BROKEN(HD_REASON_MEMORY, 1), .asks = read_sector, .pokes = {{D(1), 8, DATA + (UINT64_C(1) << 32)}}},
     {"4 GiB", "a buffer of 2^32 - 1 bytes at a good address",
-        BROKEN(HD_REASON_MEMORY), .asks = read_sector, .pokes = {{D(1) + 8, 4, 0xffffffff}}},
+        BROKEN(HD_REASON_MEMORY, 1), .asks = read_sector, .pokes = {{D(1) + 8, 4, 0xffffffff}}},
     {"readable after writable", "the last buffer is readable",
-        BROKEN(HD_REASON_READABLE_LATE), .asks = read_sector, .pokes = {{D(2) + 12, 2, 0}}},
-    {"no place for a status", "only a header", BROKEN(HD_REASON_NO_STATUS), .asks = read_sector, .pokes = {{D(0) + 12, 2, 0}}},
+        BROKEN(HD_REASON_READABLE_LATE, 2), .asks = read_sector, .pokes = {{D(2) + 12, 2, 0}}},
+    {"no place for a status", "only a header", BROKEN(HD_REASON_NO_STATUS, 0), .asks = read_sector, .pokes = {{D(0) + 12, 2, 0}}},
     // 01 §5: overlaps are the guest's affair, within its walls
     {"over the used ring", "a data buffer at the used ring: the guest spoils its own ring", ANSWERED(0, 513), .asks = over_used_ring},
     {"over the descriptors", "a data buffer at the descriptors: too late, they were read", ANSWERED(0, 513), .asks = over_descriptors},

@@ -77,7 +77,7 @@ static const struct { const char *name; uint64_t sector; uint32_t bytes, header_
 
 static void write_and_read_back(size_t i)
 {
-    const struct outcome wrote = {HD_STEP_ANSWERED, 0, 0, 1}, read = {HD_STEP_ANSWERED, 0, 0, rounds[i].bytes + 1};
+    const struct outcome wrote = {HD_STEP_ANSWERED, 0, 0, 1, 0}, read = {HD_STEP_ANSWERED, 0, 0, rounds[i].bytes + 1, 0};
     struct outcome got;
     char deed[96], answer[64];
     noise(written, rounds[i].bytes, 100 + i);
@@ -110,7 +110,7 @@ static void one(const char *name, const char *deed, struct request r, struct out
 
 static void around_the_counters(void)  // a host that was restarted takes the queue over
 {
-    const struct outcome want = {HD_STEP_ANSWERED, 0, 0, 1};
+    const struct outcome want = {HD_STEP_ANSWERED, 0, 0, 1, 0};
     struct outcome got = want;
     struct request flush = write_of(0, 0, 0, 16);
     const char *problem = NULL;
@@ -132,7 +132,7 @@ void honest_guest(void)
     for (size_t i = 0; i < COUNT(rounds); i++) write_and_read_back(i);
     struct request r = fresh(GET_ID, 0);
     add(&r, HEADER, 16, false), add(&r, DATA, 21, true);
-    one("the disk's identity", "asks for the 20 bytes of text", r, (struct outcome){HD_STEP_ANSWERED, 0, 0, 21});
-    one("nothing, at the end", "writes 0 bytes behind the last sector", write_of(SECTORS, 0, 0, 16), (struct outcome){HD_STEP_ANSWERED, 0, 0, 1});
+    one("the disk's identity", "asks for the 20 bytes of text", r, (struct outcome){HD_STEP_ANSWERED, 0, 0, 21, 0});
+    one("nothing, at the end", "writes 0 bytes behind the last sector", write_of(SECTORS, 0, 0, 16), (struct outcome){HD_STEP_ANSWERED, 0, 0, 1, 0});
     around_the_counters();
 }

@@ -42,7 +42,7 @@ static struct outcome one_round(void)
     uint64_t status[HD_STATUS_WORDS];
     for (int i = 0; got.answer == HD_STEP_WENT_ON && i < 3 * SIZE; i++) got.answer = step();
     look(status);
-    got.reason = status[HD_STATUS_REASON];
+    note_break(status, &got);
     if (got.answer == HD_STEP_ANSWERED) got.status = peek(STATUS, 1), got.len = peek(USED + 8, 4);
     return got;
 }
@@ -50,7 +50,7 @@ static struct outcome one_round(void)
 static const char *rounds(const struct race *r, unsigned seen[2])
 {
     static char text[64];
-    const struct outcome good = {HD_STEP_ANSWERED, 0, 0, 513}, bad = {HD_STEP_BROKEN, r->reason, 0, 0};
+    const struct outcome good = {HD_STEP_ANSWERED, 0, 0, 513, 0}, bad = {HD_STEP_BROKEN, r->reason, 0, 0, 1};
     for (unsigned i = 0; i < ROUNDS || (i < MOST_ROUNDS && !(seen[0] && seen[1])); i++) {
         struct outcome got = one_round();
         if (!same_outcome(got, good) && !same_outcome(got, bad)) {

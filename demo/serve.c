@@ -46,6 +46,12 @@ static void note_answer(const struct request *r, struct outcome *got)  // right 
     got->len = peek(USED + 8 + 8 * (world.answered % world.queue), 4);
 }
 
+void note_break(const uint64_t *status, struct outcome *got)
+{
+    got->reason = status[HD_STATUS_REASON];
+    if (got->reason) got->at = status[HD_STATUS_BROKEN_AT];
+}
+
 // Steps until the request is answered or comes to nothing; the host bounds the steps. Where the guest meddles every byte is
 // compared after each step. Answers what isn't as expected, or NULL.
 const char *run_steps(const struct request *asked, struct outcome want, meddler *meddle, struct outcome *got)
@@ -63,7 +69,7 @@ const char *run_steps(const struct request *asked, struct outcome want, meddler 
         if (meddle) problem = differs();
     }
     look(status);
-    got->reason = status[HD_STATUS_REASON];
+    note_break(status, got);
     return problem;
 }
 
@@ -81,7 +87,7 @@ const char *serve(const struct request *asked, struct outcome want, meddler *med
 
 bool same_outcome(struct outcome a, struct outcome b)
 {
-    return a.answer == b.answer && a.reason == b.reason && a.status == b.status && a.len == b.len;
+    return a.answer == b.answer && a.reason == b.reason && a.status == b.status && a.len == b.len && a.at == b.at;
 }
 
 const char *said(struct outcome o)
@@ -89,12 +95,15 @@ const char *said(struct outcome o)
     static char text[2][64];
     static int turn;
     char *t = text[turn = !turn];
-    unsigned long long reason = o.reason, status = o.status, len = o.len;
+    unsigned long long reason = o.reason, status = o.status, len = o.len, at = o.at;
     switch (o.answer) {
     case HD_STEP_IDLE: return "nothing to do";
     case HD_STEP_WENT_ON: return "went on, and on";
     case HD_STEP_ANSWERED: snprintf(t, 64, "answered: status %llu, len %llu", status, len); return t;
-    case HD_STEP_BROKEN: snprintf(t, 64, "broken, reason %llu", reason); return t;
+    case HD_STEP_BROKEN:
+        if (at < HD_NO_DESCRIPTOR) snprintf(t, 64, "broken, reason %llu, at descriptor %llu", reason, at);
+        else snprintf(t, 64, "broken, reason %llu", reason);
+        return t;
     case HD_STEP_REFUSED: return "step refused (4)";
     default: snprintf(t, 64, "unknown answer %llu", (unsigned long long)o.answer); return t;
     }

@@ -1,5 +1,5 @@
 // A host in C: it registers guest memory, a disk and a queue, then steps the device while a guest on another thread reads a
-// sector. The guest is a driver by the book and stands in for a virtual machine.
+// sector, and after that breaks its queue with a buffer that isn't in its memory. The guest stands in for a virtual machine.
 #include <stdatomic.h>
 #include <stdio.h>
 #include <stdlib.h>
@@ -7,6 +7,7 @@
 #include <threads.h>
 #include <time.h>
 #include "hostiledisk.h"
+#include "hostiledisk_text.h"
 
 enum { MEMORY = 65536, SECTORS = 64, DISK = SECTORS * HD_SECTOR_BYTES, SIZE = 8 };
 enum { STEPS_A_TURN = 64, TURNS = 10000 };  // the host's bounds: how long one device may keep it, and how long this example runs
@@ -15,7 +16,7 @@ enum { DESC = 0x1000, AVAIL = 0x2000, USED = 0x3000, HEADER = 0x4000, DATA = 0x5
 
 static _Alignas(4096) uint8_t memory[MEMORY];  // the slice begins at a page, so both idx lie at even addresses
 static uint8_t disk[DISK];
-static atomic_int guest_done;
+static atomic_int given_up;
 
 // ---- the guest
 
@@ -41,10 +42,13 @@ static int guest(void *unused)
     memory[STATUS] = 0xff;
     put(AVAIL + 4, 0, 2);                                 // entry 0: head 0
     __atomic_store_n(avail_idx, 1, __ATOMIC_RELEASE);     // the entry is seen before idx
-    while (__atomic_load_n(used_idx, __ATOMIC_ACQUIRE) != 1 && !atomic_load(&guest_done)) thrd_yield();
+    while (__atomic_load_n(used_idx, __ATOMIC_ACQUIRE) != 1 && !atomic_load(&given_up)) thrd_yield();
     unsigned len = memory[USED + 8] + 256u * memory[USED + 9];
     printf("guest: status %u, len %u, sector 3 reads \"%.40s\"\n", memory[STATUS], len, memory + DATA);
-    atomic_store(&guest_done, 1);
+    describe(6, HEADER, 16, 1, 4);
+    describe(4, MEMORY - 100, 512, 3, 2);                 // and now it leaves the rules
+    put(AVAIL + 6, 6, 2);                                 // entry 1: head 6
+    __atomic_store_n(avail_idx, 2, __ATOMIC_RELEASE);
     return 0;
 }
 
@@ -87,14 +91,16 @@ static int turn(struct device *d)  // at most so many steps, then it is another 
 {
     for (int i = 0; i < STEPS_A_TURN; i++) {
         uint64_t status[HD_STATUS_WORDS], answer = step(d);
+        char text[HD_BROKEN_TEXT_BYTES];
         switch (answer) {
         case HD_STEP_IDLE: return 1;
         case HD_STEP_WENT_ON: break;
         case HD_STEP_ANSWERED: break;    // a real host notifies the guest here
         case HD_STEP_BROKEN:
             need("hd_status", hd_status(d->state, d->words, status, HD_STATUS_WORDS));
-            printf("host: the guest broke its queue, reason %llu\n", (unsigned long long)status[HD_STATUS_REASON]);
-            return 0;
+            hd_broken_text(text, sizeof text, status);
+            printf("host: %s\n", text);
+            return 0;                    // until hd_reset this queue does nothing more
         default: printf("host: hd_step answered %llu, a mistake of this host\n", (unsigned long long)answer); return 0;
         }
     }
@@ -109,14 +115,15 @@ int main(void)
     snprintf((char *)disk + 3 * HD_SECTOR_BYTES, HD_SECTOR_BYTES, "hello from sector three");
     if (thrd_create(&thread, guest, NULL) != thrd_success) perror("host"), exit(1);
     // a real host serves its other devices here, and waits for a notification if all are idle
-    for (int i = 0; i < TURNS && turn(&d) && !atomic_load(&guest_done); i++) thrd_sleep(&pause, NULL);
-    atomic_store(&guest_done, 1);  // a guest that still waits gives up
+    for (int i = 0; i < TURNS && turn(&d); i++) thrd_sleep(&pause, NULL);
+    atomic_store(&given_up, 1);  // by the host: a guest that still waits ends
     thrd_join(thread, NULL);
     uint64_t status[HD_STATUS_WORDS];
     need("hd_status", hd_status(d.state, d.words, status, HD_STATUS_WORDS));
     printf("host: %llu answered\n", (unsigned long long)status[HD_STATUS_ANSWERED]);
     int as_promised = status[HD_STATUS_ANSWERED] == 1 && memory[STATUS] == 0 &&
-                      memcmp(memory + DATA, disk + 3 * HD_SECTOR_BYTES, HD_SECTOR_BYTES) == 0;
+                      memcmp(memory + DATA, disk + 3 * HD_SECTOR_BYTES, HD_SECTOR_BYTES) == 0 &&
+                      status[HD_STATUS_REASON] == HD_REASON_MEMORY && status[HD_STATUS_BROKEN_AT] == 4;
     need("hd_reset", hd_reset(d.state, d.words));
     free(d.state), free(d.chain), free(d.stage);
     return !as_promised;

@@ -1,7 +1,8 @@
 //! A host in Rust, over the binding: it registers guest memory, a disk and a queue, then steps the device while a guest on
-//! another thread reads a sector. The guest is a driver by the book and stands in for a virtual machine.
+//! another thread reads a sector, and after that breaks its queue with a buffer that isn't in its memory. The guest stands in
+//! for a virtual machine.
 
-use hostiledisk::{identity, Device, Disk, Queue, Region, Step, SECTOR_BYTES};
+use hostiledisk::{identity, Device, Disk, Queue, Reason, Region, Step, SECTOR_BYTES};
 use std::alloc::{alloc_zeroed, handle_alloc_error, Layout};
 use std::error::Error;
 use std::sync::atomic::{fence, AtomicBool, AtomicU16, Ordering};
@@ -61,18 +62,21 @@ impl Shared {
     }
 }
 
+/// Flags are 1 NEXT, 2 WRITE.
+fn describe(memory: Shared, number: u64, address: u64, len: u32, flags: u16, next: u16) {
+    let at = QUEUE.desc + 16 * number;
+    memory.put(at, &address.to_le_bytes());
+    memory.put(at + 8, &len.to_le_bytes());
+    memory.put(at + 12, &flags.to_le_bytes());
+    memory.put(at + 14, &next.to_le_bytes());
+}
+
 /// The guest: reads sector 3. Answers the status and the first data bytes, or nothing if the host has given up.
 fn guest(memory: Shared, given_up: &AtomicBool) -> Option<(u8, Vec<u8>)> {
     let (header, data, status) = (GUEST + 0x4000, GUEST + 0x5000, GUEST + 0x6000);
-    // address, length, flags (1 NEXT, 2 WRITE), next
-    let chain: [(u64, u32, u16, u16); 3] = [(header, 16, 1, 1), (data, 512, 3, 2), (status, 1, 2, 0)];
-    for (i, (address, len, flags, next)) in chain.into_iter().enumerate() {
-        let at = QUEUE.desc + 16 * i as u64;
-        memory.put(at, &address.to_le_bytes());
-        memory.put(at + 8, &len.to_le_bytes());
-        memory.put(at + 12, &flags.to_le_bytes());
-        memory.put(at + 14, &next.to_le_bytes());
-    }
+    describe(memory, 0, header, 16, 1, 1);
+    describe(memory, 1, data, 512, 3, 2);
+    describe(memory, 2, status, 1, 2, 0);
     memory.put(header, &[0, 0, 0, 0, 0, 0, 0, 0, 3]); // IN, sector 3
     memory.put(status, &[0xff]);
     memory.put(QUEUE.avail + 4, &[0, 0]); // entry 0: head 0
@@ -83,7 +87,12 @@ fn guest(memory: Shared, given_up: &AtomicBool) -> Option<(u8, Vec<u8>)> {
         }
         thread::yield_now();
     }
-    Some((memory.get(status, 1)[0], memory.get(data, SECTOR_BYTES)))
+    let read = (memory.get(status, 1)[0], memory.get(data, SECTOR_BYTES));
+    describe(memory, 6, header, 16, 1, 4);
+    describe(memory, 4, GUEST + MEMORY as u64 - 100, 512, 3, 2); // and now it leaves the rules
+    memory.put(QUEUE.avail + 6, &[6, 0]); // entry 1: head 6
+    memory.idx(QUEUE.avail).store(2, Ordering::Release);
+    Some(read)
 }
 
 fn set_up(backing: &[u8]) -> Result<Device, Box<dyn Error>> {
@@ -95,9 +104,8 @@ fn set_up(backing: &[u8]) -> Result<Device, Box<dyn Error>> {
     Ok(device)
 }
 
-/// At most STEPS_A_TURN steps, then it is another device's turn. The number of requests answered.
-fn turn(device: &mut Device, memory: Shared, backing: &mut [u8]) -> Result<usize, Box<dyn Error>> {
-    let mut answered = 0;
+/// At most STEPS_A_TURN steps, then it is another device's turn. False when this queue has ended.
+fn turn(device: &mut Device, memory: Shared, backing: &mut [u8]) -> Result<bool, Box<dyn Error>> {
     for _ in 0..STEPS_A_TURN {
         // Before S7: what S6 wrote (data, status, used entry) is seen before used idx, and all fetches are done.
         fence(Ordering::Release);
@@ -108,12 +116,15 @@ fn turn(device: &mut Device, memory: Shared, backing: &mut [u8]) -> Result<usize
         match step {
             Step::Idle => break,
             Step::WentOn => {}
-            Step::Answered => answered += 1, // a real host notifies the guest here
-            Step::Broken(reason) => return Err(reason.into()),
+            Step::Answered => {} // a real host notifies the guest here
+            Step::Broken(_) => {
+                println!("host: {}", device.status());
+                return Ok(false); // until Device::reset this queue does nothing more
+            }
             Step::Refused => return Err("a step was refused: a mistake of this host".into()),
         }
     }
-    Ok(answered)
+    Ok(true)
 }
 
 fn main() -> Result<(), Box<dyn Error>> {
@@ -123,22 +134,24 @@ fn main() -> Result<(), Box<dyn Error>> {
     backing[3 * SECTOR_BYTES..][..23].copy_from_slice(b"hello from sector three");
     let mut device = set_up(&backing)?;
     let driver = thread::spawn(move || guest(memory, &GIVEN_UP));
-    let mut answered = 0;
     for _ in 0..TURNS {
-        answered += turn(&mut device, memory, &mut backing)?;
-        if answered > 0 {
+        if !turn(&mut device, memory, &mut backing)? {
             break;
         }
         // a real host serves its other devices here, and waits for a notification if all are idle
         thread::sleep(Duration::from_millis(1));
     }
-    GIVEN_UP.store(answered == 0, Ordering::Relaxed); // a guest that still waits gives up
+    GIVEN_UP.store(true, Ordering::Relaxed); // a guest that still waits ends
     let came_back = driver.join().map_err(|_| "the guest panicked")?;
     let (status, data) = came_back.ok_or("no answer")?;
     println!("guest: status {status}, sector 3 reads {:?}", String::from_utf8_lossy(&data[..23]));
-    println!("host: {answered} answered");
+    let ended = device.status();
+    println!("host: {} answered", ended.answered);
     if status != 0 || data != backing[3 * SECTOR_BYTES..4 * SECTOR_BYTES] {
         return Err("that is not sector 3".into());
+    }
+    if (ended.answered, ended.broken, ended.broken_at) != (1, Some(Reason::Memory), Some(4)) {
+        return Err(format!("not how this guest breaks its queue: {ended}").into());
     }
     Ok(())
 }

@@ -49,7 +49,8 @@ enum {
     HD_QUEUE_SIZE_MAX = 256,      // queue size: a power of two from 1 up to this
     HD_STAGE_BYTES = 1048576,     // what hd_stage_bytes answers
     HD_REQUEST_BYTES_MAX = 1048576,  // data bytes of the largest read or write; a larger one gets status 1 (I/O error)
-    HD_COUNTER_END = 65536        // counters and indices count modulo this
+    HD_COUNTER_END = 65536,       // counters and indices count modulo this
+    HD_NO_DESCRIPTOR = 65536      // in HD_STATUS_BROKEN_AT: no descriptor has this number
 };
 #define HD_SECTORS_MAX UINT64_C(4294967296)  // the largest disk: 2^32 sectors
 
@@ -81,7 +82,7 @@ enum hd_answer {
     HD_REFUSED_CHAIN_SHORT = 42,      // fewer chain words than hd_chain_words(size)
     HD_REFUSED_STAGE_SHORT = 43,      // fewer staging bytes than hd_stage_bytes()
     HD_REFUSED_ID_LENGTH = 44,        // an identity that isn't 20 bytes
-    HD_REFUSED_OUT_SHORT = 45,        // fewer than HD_STATUS_WORDS words for hd_status
+    HD_REFUSED_OUT_SHORT = 45,        // fewer than HD_STATUS_WORDS_LEAST words for hd_status
     HD_REFUSED_START = 46             // hd_enable_at: start is 65,536 or more
 };
 
@@ -91,7 +92,7 @@ enum hd_step_answer {
     HD_STEP_IDLE = 0,      // nothing to do: the driver has made nothing available. Wait for its notification
     HD_STEP_WENT_ON = 1,   // a part of a request was done; call again
     HD_STEP_ANSWERED = 2,  // a request was answered just now, and used idx is published. Notify the guest, call again
-    HD_STEP_BROKEN = 3,    // the driver has left the rules, now or before; hd_status has the reason. Every further step
+    HD_STEP_BROKEN = 3,    // the driver has left the rules, now or before; hd_status says why and where. Every further step
                            // answers this and touches nothing, until hd_reset (or hd_memory)
     HD_STEP_REFUSED = 4    // the host's mistake, nothing touched: not enabled, spoilt state or chain memory, or a slice
                            // shorter than set-up was told
@@ -123,10 +124,18 @@ enum hd_status_word {
     HD_STATUS_HEAD = 5,         // head of the request at hand
     HD_STATUS_DESCRIPTORS = 6,  // descriptors fetched for it, a refused one included
     HD_STATUS_BYTES = 7,        // header and payload bytes fetched for it
-    HD_STATUS_WORDS = 8         // how many words there are
+    HD_STATUS_BROKEN_AT = 8,    // number, in its table, of the descriptor at which the chain was refused; HD_NO_DESCRIPTOR
+                                // if the queue is in order, or broke elsewhere
+    HD_STATUS_LAST_CHAIN = 9,   // descriptors of the last chain that was complete; 0 before the first
+    HD_STATUS_WORDS = 10,       // how many words there are
+    HD_STATUS_WORDS_LEAST = 8   // the fewest that hd_status writes: those before HD_STATUS_BROKEN_AT
 };
-// The last three are 0 where there is no request at hand (S1, S2). After a break they speak of the request that broke
-// the queue; head is 0 if no valid head had been fetched.
+// Head, descriptors and bytes are 0 where there is no request at hand (S1, S2). After a break they speak of the request
+// that broke the queue; head is 0 if no valid head had been fetched.
+// Where it broke: for reason 2 the descriptor whose next is bad, for reason 3 the one that would have been number q + 1
+// of its chain, for reason 8 the chain's last one. Reason 1, and reason 2 for a head, are at no descriptor.
+// A chain is complete with the S3 that takes a descriptor without NEXT, also if that breaks the queue for reason 8; a
+// chain that is refused for another reason leaves the number as it was. Enabling makes it 0.
 
 enum hd_next_step {
     HD_NEXT_NONE = 0,        // not enabled, or broken
@@ -197,8 +206,9 @@ uint64_t hd_step  (uint64_t *state, size_t state_len,
                    uint64_t *chain, size_t chain_len,
                    uint8_t *stage, size_t stage_len);
 
-// What the queue is at: writes HD_STATUS_WORDS words (enum hd_status_word) to out, and none after them.
-// Answers, tested in this order: 40 · 45 · 0. A refusal writes nothing.
+// What the queue is at: writes HD_STATUS_WORDS words (enum hd_status_word) to out, and none after them; to an out of 8
+// or 9 words the first HD_STATUS_WORDS_LEAST, and no other. include/hostiledisk_text.h says a break in words.
+// Answers, tested in this order: 40 · 45 fewer than HD_STATUS_WORDS_LEAST words · 0. A refusal writes nothing.
 uint64_t hd_status(const uint64_t *state, size_t state_len, uint64_t *out, size_t out_len);
 
 #ifdef __cplusplus

@@ -2,13 +2,14 @@
 #include <stdio.h>
 #include <string.h>
 #include "counts.h"
-#include "hostiledisk.h"
+#include "hostiledisk_text.h"
 
 // The interface doesn't tell a request's type or status. Both stand in private memory that the host lends, where no
 // guest can reach them: the header is gathered in the first 16 bytes of staging memory (docs/DECISIONS.md, D7), and
 // before S6 the state holds the numbers of readable and writable bytes and the verdict (D8, crates/words/specs/Layout.antt).
-enum { STATE_WORDS = 52, READABLE = 46, WRITABLE = 47, VERDICT = 48, HEADER_BYTES = 16 };
+enum { STATE_WORDS = 53, READABLE = 46, WRITABLE = 47, VERDICT = 48, HEADER_BYTES = 16 };
 enum { DONE, FAILED, UNSUPPORTED, READ };
+_Static_assert((int)STATUS_WORDS == HD_STATUS_WORDS && (int)BROKEN_AT == HD_STATUS_BROKEN_AT, "counts.h names the words of hd_status");
 
 bool counts_fit(void) { return hd_state_words() == STATE_WORDS; }
 
@@ -51,14 +52,11 @@ void counts_broken(struct counts *c, const uint64_t *status)
     memcpy(c->broken, status, sizeof c->broken);
 }
 
-const char *counts_reason(uint64_t reason)
+void counts_where(char text[WHERE_BYTES], const uint64_t *status)
 {
-    static const char *const reasons[] = {
-        "in order", "more pending than the queue has places", "a descriptor number past the queue", "a chain longer than the queue",
-        "a flag that isn't negotiated", "a buffer of no bytes", "a buffer that isn't in memory", "a readable buffer after a writable one",
-        "no writable buffer",
-    };
-    return reason < sizeof reasons / sizeof *reasons ? reasons[reason] : "unknown";
+    char broken[HD_BROKEN_TEXT_BYTES];
+    hd_broken_text(broken, sizeof broken, status);
+    snprintf(text, WHERE_BYTES, "%s; head %" PRIu64 ", taken %" PRIu64, broken, status[HEAD], status[TAKEN]);
 }
 
 void counts_print(const struct counts *c, const char *who)
@@ -67,9 +65,11 @@ void counts_print(const struct counts *c, const char *who)
            c->flush, c->get_id, c->other, c->headless);
     printf("; bytes read %" PRIu64 ", written %" PRIu64 "; refused %" PRIu64 ", unsupported %" PRIu64, c->read, c->written, c->refused, c->unsupported);
     printf("; started %" PRIu64 ", last at %" PRIu64 "; monitors dropped %" PRIu64 "; broken %" PRIu64, c->starts, c->base, c->dropped, c->breaks);
-    if (c->breaks)
-        printf(", last by reason %" PRIu64 " (%s) at descriptor %" PRIu64 " of head %" PRIu64 ", taken %" PRIu64, c->broken[REASON],
-               counts_reason(c->broken[REASON]), c->broken[DESCRIPTORS], c->broken[HEAD], c->broken[TAKEN]);
+    if (c->breaks) {
+        char where[WHERE_BYTES];
+        counts_where(where, c->broken);
+        printf(", last: %s", where);
+    }
     putchar('\n');
     fflush(stdout);
 }

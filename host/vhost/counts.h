@@ -9,7 +9,7 @@
 enum { IN = 0, OUT = 1, FLUSH = 4, GET_ID = 8 };  // 03 §3
 
 enum { S1 = 1, S2, S3, S4, S5, S6, S7 };  // the step schedule
-enum { ENABLED, REASON, TAKEN, ANSWERED, STEP, HEAD, DESCRIPTORS, BYTES, STATUS_WORDS };  // of hd_status
+enum { ENABLED, REASON, TAKEN, ANSWERED, STEP, HEAD, DESCRIPTORS, BYTES, BROKEN_AT, LAST_CHAIN, STATUS_WORDS };  // of hd_status
 
 struct counts {
     uint64_t in, out, flush, get_id, other, headless;
@@ -26,7 +26,8 @@ bool counts_fit(void);  // the library keeps its private memory as counts_see ex
 void counts_see(struct counts *c, uint64_t before, uint64_t next, const uint64_t *state, const uint8_t *stage);
 bool counts_flush(const struct counts *c);  // the request that is about to be answered is an accepted FLUSH
 void counts_broken(struct counts *c, const uint64_t *status);
-const char *counts_reason(uint64_t reason);  // 01 §3
+enum { WHERE_BYTES = 256 };
+void counts_where(char text[WHERE_BYTES], const uint64_t *status);  // a broken queue's reason, descriptor, head and number taken, in words
 void counts_print(const struct counts *c, const char *who);
 
 #endif

@@ -1,5 +1,4 @@
 #define _GNU_SOURCE
-#include <inttypes.h>
 #include <stdatomic.h>
 #include <stdlib.h>
 #include <unistd.h>
@@ -79,12 +78,12 @@ bool queue_start(struct disk *d, const char **why)
 
 static void say_broken(struct disk *d)
 {
-    const uint64_t *s = d->status;
-    counts_broken(&d->counts, s);
+    char where[WHERE_BYTES];
+    counts_broken(&d->counts, d->status);
     signal_event(d->ring.err);
     if (d->counts.breaks > BREAKS_SAID) return;
-    say(d->options->socket, "queue broken by reason %" PRIu64 ": %s, at descriptor %" PRIu64 " of head %" PRIu64 ", taken %" PRIu64 "%s", s[REASON],
-        counts_reason(s[REASON]), s[DESCRIPTORS], s[HEAD], s[TAKEN], d->counts.breaks == BREAKS_SAID ? "; later ones are only counted" : "");
+    counts_where(where, d->status);
+    say(d->options->socket, "%s%s", where, d->counts.breaks == BREAKS_SAID ? "; later ones are only counted" : "");
 }
 
 static void halt(struct disk *d, const char *why)

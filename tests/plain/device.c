@@ -9,7 +9,7 @@
 
 _Static_assert(__BYTE_ORDER__ == __ORDER_LITTLE_ENDIAN__, "all fields are lowest byte first (01), and are loaded as they are");
 
-enum { REGIONS = 8, SECTOR = 512, HEADER = 16, IDENTITY = 20, MOST = 1048576, LONGEST_QUEUE = 256 };
+enum { REGIONS = 8, SECTOR = 512, HEADER = 16, IDENTITY = 20, MOST = 1048576, LONGEST_QUEUE = 256, NOWHERE = 65536 };
 enum { NEXT = 1, WRITE = 2 };                                              // flags of a descriptor (01 §2)
 enum { IN = 0, OUT = 1, FLUSH = 4, GET_ID = 8 };                           // types of a request (03 §3)
 enum { OK = 0, IOERR = 1, UNSUPP = 2 };                                    // its status
@@ -31,9 +31,10 @@ struct device {
     uint64_t step;
     uint64_t head, count, reads, r, w;  // the chain: descriptors fetched, readable ones, readable and writable bytes
     union { uint64_t next, buffer, job, reason; };  // S3: the next descriptor; S4, S5: the buffer at hand; S6; broken
-    uint64_t skip;     // S4, S5: bytes of that buffer fetched already
-    uint64_t sector;   // S5, S6
-    uint64_t fetched;  // header and payload
+    union { uint64_t skip, broken_at; };  // S4, S5: bytes of that buffer fetched already; broken: at which descriptor, or NOWHERE
+    uint64_t sector;      // S5, S6
+    uint64_t fetched;     // header and payload
+    uint64_t last_chain;  // descriptors of the last chain that was complete
 };
 enum { WORDS = sizeof(struct device) / 8 };
 
@@ -133,7 +134,8 @@ static int queue_ok(const struct device *d)
     const uint64_t q = d->size;
     return size_ok(q) && within(d->desc, 16 * q, d->mem_len) && within(d->avail, 6 + 2 * q, d->mem_len)
         && within(d->used, 6 + 8 * q, d->mem_len) && d->chain_len >= 2 * q && d->stage_len >= MOST
-        && d->taken < 65536 && d->answered < 65536;
+        && d->taken < 65536 && d->answered < 65536
+        && (WRONG == BREAK_NOT_TESTED || d->last_chain <= q + (WRONG == Q_PLUS_ONE));
 }
 
 static int chain_ok(const struct device *d)  // as far as it was fetched
@@ -151,6 +153,12 @@ static int job_ok(const struct device *d)
     return d->job == READ ? fits(d->w - 1, d->sector, d->sectors) : d->job == IDENTIFY ? d->w == IDENTITY + 1 : d->job < READ;
 }
 
+static int broken_ok(const struct device *d)
+{
+    if (d->reason < 1 || d->reason > 8 || d->head >= d->size || d->count > d->size + 1) return 0;
+    return WRONG == BREAK_NOT_TESTED || (d->count == 0 ? d->broken_at == NOWHERE : d->broken_at < d->size + (WRONG == BROKEN_AT_CHAIN_POSITION));
+}
+
 static int step_ok(const struct device *d)
 {
     switch (d->step) {
@@ -161,7 +169,7 @@ static int step_ok(const struct device *d)
                  && fits(d->r - HEADER, d->sector, d->sectors);
     case S6: return complete_ok(d) && d->fetched <= d->r && job_ok(d);
     case S7: return complete_ok(d) && d->fetched <= d->r;
-    case BROKEN: return d->reason >= 1 && d->reason <= 8 && d->head < d->size && d->count <= d->size + 1;
+    case BROKEN: return broken_ok(d);
     }
     return 0;
 }
@@ -202,6 +210,12 @@ static uint64_t broken(struct device *d, uint64_t reason)
     return BROKE;
 }
 
+static uint64_t broken_at(struct device *d, uint64_t reason, uint64_t descriptor)
+{
+    d->broken_at = descriptor;
+    return broken(d, reason);
+}
+
 // The request is decided: S6 carries it out.
 static uint64_t decided(struct device *d, uint64_t job)
 {
@@ -215,7 +229,8 @@ static uint64_t poll(struct device *d, const uint8_t *mem)  // S1
     uint16_t pending = (uint16_t)(idx - d->taken);
     if (WRONG == IDX_BY_LESS_THAN ? idx <= d->taken : pending == 0) return IDLE;
     if (WRONG == IDX_FETCHED_TWICE) pending = (uint16_t)(load_idx(mem + d->avail + 2) - d->taken);
-    d->head = d->count = d->reads = d->r = d->w = d->skip = d->fetched = 0;
+    d->head = d->count = d->reads = d->r = d->w = d->fetched = 0;
+    d->broken_at = NOWHERE;  // until a descriptor was fetched
     if (WRONG != PENDING_NOT_TESTED && pending > d->size) return broken(d, 1);
     return go_on(d, S2);
 }
@@ -229,33 +244,35 @@ static uint64_t head(struct device *d, const uint8_t *mem)  // S2
     return go_on(d, S3);
 }
 
-static uint64_t chain_complete(struct device *d)
+static uint64_t chain_complete(struct device *d, uint64_t at)
 {
-    if (d->w == 0) return broken(d, 8);
+    d->last_chain = d->count - (WRONG == LAST_CHAIN_ONE_LESS);
+    if (d->w == 0) return broken_at(d, 8, at);
     if (d->r < HEADER) return decided(d, FAILED);
-    d->buffer = 0;
+    d->buffer = d->skip = 0;
     return go_on(d, S4);
 }
 
 static uint64_t descriptor(struct device *d, const uint8_t *mem, struct buffer *chain)  // S3
 {
-    const uint8_t *at = mem + d->desc + 16 * d->next;
-    const uint64_t addr = load64(at), rest = load64(at + 8);
-    const uint64_t next = rest >> 48, number = d->count++;
+    const uint8_t *from = mem + d->desc + 16 * d->next;
+    const uint64_t addr = load64(from), rest = load64(from + 8);
+    const uint64_t next = rest >> 48, number = d->count++, at = WRONG == BROKEN_AT_CHAIN_POSITION ? number : d->next;
     uint64_t len = (uint32_t)rest, flags = (uint16_t)(rest >> 32), offset;
-    if (number >= d->size + (WRONG == Q_PLUS_ONE)) return broken(d, 3);
-    if (flags & ~(uint64_t)(NEXT | WRITE)) return broken(d, 4);
-    if (len == 0) return broken(d, 5);
-    if (!locate(d, addr, len, &offset)) return broken(d, 6);
-    if (!(flags & WRITE) && d->reads < number) return broken(d, 7);
-    if (flags & NEXT && next >= d->size) return broken(d, 2);
-    if (WRONG == LENGTH_FETCHED_TWICE) len = load32(at + 8);
-    if (WRONG == FLAGS_FETCHED_TWICE) flags = load16(at + 12);
+    if (number >= d->size + (WRONG == Q_PLUS_ONE)) return broken_at(d, 3, at);
+    if (flags & ~(uint64_t)(NEXT | WRITE)) return broken_at(d, 4, at);
+    if (len == 0) return broken_at(d, 5, at);
+    if (!locate(d, addr, len, &offset)) return broken_at(d, 6, at);
+    if (!(flags & WRITE) && d->reads < number) return broken_at(d, 7, at);
+    if (flags & NEXT && next >= d->size) return broken_at(d, 2, WRONG == BROKEN_AT_HEAD ? d->head : at);
+    if (WRONG == LENGTH_FETCHED_TWICE) len = load32(from + 8);
+    if (WRONG == FLAGS_FETCHED_TWICE) flags = load16(from + 12);
     chain[number] = (struct buffer){offset, len};
     if (flags & WRITE) d->w += len;
     else d->reads++, d->r += len;
     if (WRONG == LENGTHS_IN_32_BITS) d->w = (uint32_t)d->w, d->r = (uint32_t)d->r;
-    if (!(flags & NEXT)) return chain_complete(d);
+    if (!(flags & NEXT)) return chain_complete(d, at);
+    if (WRONG == CHAIN_COUNTED_EARLY) d->last_chain = d->count;
     d->next = next;
     return WENT_ON;
 }
@@ -426,6 +443,7 @@ uint64_t hd_enable_at(uint64_t *state, size_t state_len, uint64_t size, uint64_t
     d->size = size, d->desc = desc_at, d->avail = avail_at, d->used = used_at;
     d->chain_len = chain_len, d->stage_len = stage_len, d->taken = d->answered = start;
     d->level = ENABLED, d->step = S1;
+    if (WRONG != LAST_CHAIN_KEPT) d->last_chain = 0;
     return 0;
 }
 
@@ -448,13 +466,17 @@ uint64_t hd_status(const uint64_t *state, size_t state_len, uint64_t *out, size_
     const struct device *d = (const struct device *)state;
     if (state_len < WORDS) return 40;
     if (out_len < 8) return 45;
-    memset(out, 0, 8 * sizeof *out);
+    const size_t n = out_len >= 10 ? 10 : WRONG == NINE_WORDS_WRITE_TEN ? out_len : 8;
+    memset(out, 0, n * sizeof *out);
     if (level(d) != ENABLED) return 0;
     out[0] = 1, out[2] = d->taken, out[3] = d->answered;
     if (d->step == BROKEN) out[1] = d->reason;
     else out[4] = d->step;
     if (d->step >= S3) out[5] = d->head, out[6] = d->count;
+    if (WRONG == FETCHED_ONE_LESS && d->step == BROKEN && d->count > 0) out[6]--;
     if (d->step >= S4 && d->step <= S7) out[7] = d->fetched;
+    if (n > 8) out[8] = d->step == BROKEN ? d->broken_at : NOWHERE;
+    if (n > 9) out[9] = d->last_chain;
     return 0;
 }
 

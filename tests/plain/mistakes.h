@@ -47,6 +47,16 @@ enum {
     START_IGNORED,             // scribble: sector 0 is the backing slice's first byte, which is another disk's
     BYTE_TOO_MANY,             // scribble: a write takes one byte more than the request has
 
+    // hd_status: where a queue broke, and how long the last chain was
+    BROKEN_AT_CHAIN_POSITION,  // smoke: the descriptor's place in its chain, not its number in the table
+    BROKEN_AT_HEAD,            // smoke: for a bad next (reason 2) the head, not the descriptor that has it
+    FETCHED_ONE_LESS,          // smoke: the refused descriptor isn't counted among those fetched
+    LAST_CHAIN_ONE_LESS,       // smoke: a chain's last descriptor isn't counted
+    CHAIN_COUNTED_EARLY,       // smoke: descriptors count before their chain is complete
+    LAST_CHAIN_KEPT,           // smoke: enabling anew keeps the number from before
+    NINE_WORDS_WRITE_TEN,      // smoke: to an out of nine words it writes the ninth
+    BREAK_NOT_TESTED,          // smoke: spoilt words of these two are shown as they are
+
     // interface §2: "whatever the numbers, lengths and contents of the state are, the call stays inside the slices"
     SHORT_SLICES_TAKEN,        // smoke: hd_step takes slices that are shorter than set-up was told
     STATE_TRUSTED,             // trace: hd_step takes spoilt state words as they are

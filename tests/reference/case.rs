@@ -60,7 +60,8 @@ impl<'a> Case<'a> {
         let memory = Memory::register(&regions, mem_len).expect("the layout is one that set-up takes");
         let driver = Driver { areas, memory };
         let former = former(&mut random, mem_len);
-        Case { random, pair: Pair::new(lent, seen), driver, regions, former, disk, enabling, room: scale.room }
+        let outs = Random::new(!random.clone().next()); // what a seed makes stays as it was
+        Case { random, pair: Pair::new(lent, seen, outs), driver, regions, former, disk, enabling, room: scale.room }
     }
 
     pub fn set_up(&mut self) {
@@ -129,7 +130,7 @@ fn lend(random: &mut Random, mem_len: u64, disk: &DiskWords, enabling: &Enabling
         backing: Lent::new(disk.backing_len as usize + more(), ends & 4 != 0),
         chain: Lent::new(enabling.chain_len as usize + more(), ends & 8 != 0),
         stage: Lent::new(enabling.stage_len as usize + more(), ends & 16 != 0),
-        out: Lent::new(8 + more(), ends & 32 != 0),
+        out: Lent::new(12 + more(), ends & 32 != 0),
         short_lived_at_end: ends & 64 != 0,
     };
     random.fill(lent.mem.all_mut());

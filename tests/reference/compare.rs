@@ -3,7 +3,8 @@
 
 use crate::fail::{all_same, count_call, difference, same};
 use crate::library::{chain_words, state_words, Slices};
-use crate::reference::{Device, DiskWords, Enabling, Lens};
+use crate::random::Random;
+use crate::reference::{Device, DiskWords, Enabling, Lens, NO_DESCRIPTOR, WORDS};
 use crate::seen::Seen;
 
 const UNWRITTEN: u64 = 0x5a5a_5a5a_5a5a_5a5a;
@@ -17,6 +18,7 @@ pub struct Pair<'a> {
     pub lens: Lens,
     pub seen: &'a mut Seen,
     before: Vec<u64>,
+    random: Random,
 }
 
 /// A moment of a device: everything private, of the library and of the reference.
@@ -29,10 +31,10 @@ pub struct Moment {
 
 impl<'a> Pair<'a> {
     /// Nothing set up; memory and backing as the slices have them.
-    pub fn new(lent: Slices, seen: &'a mut Seen) -> Pair<'a> {
+    pub fn new(lent: Slices, seen: &'a mut Seen, random: Random) -> Pair<'a> {
         let (mem, backing) = (lent.mem.all().to_vec(), lent.backing.all().to_vec());
         let (lens, before) = (lent.lens(), Vec::new());
-        Pair { device: Device::nothing(state_words()), mem, backing, lent, lens, seen, before }
+        Pair { device: Device::nothing(state_words()), mem, backing, lent, lens, seen, before, random }
     }
 
     fn begin(&mut self) {
@@ -52,17 +54,26 @@ impl<'a> Pair<'a> {
         want
     }
 
+    /// All words, then an out of any length.
     fn compare_status(&mut self) {
-        let lens = self.lent.lens();
+        self.compare_status_in(WORDS);
+        let any = self.random.range(7, 12) as usize;
+        self.compare_status_in(any);
+    }
+
+    fn compare_status_in(&mut self, out_len: usize) {
+        let lens = Lens { out: out_len, ..self.lent.lens() };
         self.lent.out.all_mut().fill(UNWRITTEN);
         self.begin();
-        same("hd_status", 0, self.lent.status(&lens));
+        let got = self.lent.status(&lens);
+        let (want, words) = self.device.status_in(out_len);
+        same("hd_status", want, got);
         all_same("state after hd_status", &self.before, self.lent.state.all());
-        let expected = self.device.status();
-        all_same("status word", &expected, &self.lent.out.all()[..8]);
-        let behind = &self.lent.out.all()[8..];
-        all_same("word behind the status words", &vec![UNWRITTEN; behind.len()], behind);
-        self.seen.add("hd_status", 0);
+        let out = self.lent.out.lent(out_len);
+        all_same("status word", &words, &out[..words.len()]);
+        all_same("out", &self.lent.out.with(UNWRITTEN, out_len, &words), self.lent.out.all());
+        self.seen.add("hd_status", want);
+        self.seen.add("hd_status, words of out", out_len as u64);
     }
 
     pub fn memory(&mut self, regions: &[u64], mem_len: u64) -> u64 {
@@ -110,13 +121,31 @@ impl<'a> Pair<'a> {
         let want = self.device.step(&self.lens, &mut self.mem, &mut self.backing);
         self.end("hd_step", want, got, true);
         if want == 3 {
-            self.seen.add("broken, reason", self.device.status()[1]);
-            self.seen.add("broken, step", before[4]);
+            self.broke(before);
         }
         if let (2, Some(queue), Some(request)) = (want, &self.device.queue, &self.device.done) {
             self.seen.answered(request, queue.areas.size, queue.answered);
         }
         want
+    }
+
+    /// A queue that broke just now; `before` is its status before that step.
+    fn broke(&mut self, before: [u64; WORDS]) {
+        let now = self.device.status();
+        let (reason, at, place) = (now[1], now[8], now[6].wrapping_sub(1));
+        self.seen.add("broken, reason", reason);
+        self.seen.add("broken, step", before[4]);
+        match at {
+            NO_DESCRIPTOR => self.seen.add("broken at no descriptor, reason", reason),
+            at if at != place => self.seen.add("broken at a descriptor whose number isn't its place, reason", reason),
+            _ => (),
+        }
+        if reason != 8 && before[9] != 0 {
+            self.seen.add("broken after a chain that was complete, step", before[4]);
+        }
+        if reason == 8 && before[9] != now[9] {
+            self.seen.add("broken by a chain that was complete, of another length, reason", reason);
+        }
     }
 
     /// A step that is refused or finds the queue broken: chain and staging memory stay as well.

@@ -68,6 +68,20 @@ impl<T: Copy> Lent<T> {
         unsafe { std::slice::from_raw_parts_mut(start, len) }
     }
 
+    /// What `lend` lends.
+    pub fn lent(&self, len: usize) -> &[T] {
+        let first = if self.at_end { self.len - len } else { 0 };
+        &self.all()[first..first + len]
+    }
+
+    /// The whole slice as it is if all of it held `filling`, and then the first of what `lend` lends became `written`.
+    pub fn with(&self, filling: T, len: usize, written: &[T]) -> Vec<T> {
+        let first = if self.at_end { self.len - len } else { 0 };
+        let mut all = vec![filling; self.len];
+        all[first..first + written.len()].copy_from_slice(written);
+        all
+    }
+
     fn slack_mut(&mut self) -> &mut [u8] {
         let used = self.len * size_of::<T>();
         let skip = if self.at_end { 0 } else { used };

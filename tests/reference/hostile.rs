@@ -103,7 +103,7 @@ fn everything(case: &mut Case) {
     idx(case);
 }
 
-fn mischief(case: &mut Case) {
+pub fn mischief(case: &mut Case) {
     match case.random.below(14) {
         0 => idx(case),
         1 => entry(case),

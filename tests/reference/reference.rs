@@ -6,6 +6,10 @@ use crate::regions::Memory;
 use crate::request::{Disk, MOST};
 use crate::steps::{Queue, Request};
 
+/// The words of hd_status, and what one of them holds where a queue is in order or broke at no descriptor.
+pub const WORDS: usize = 10;
+pub const NO_DESCRIPTOR: u64 = 65_536;
+
 /// How long the slices are that a call is lent.
 #[derive(Clone, Copy)]
 pub struct Lens {
@@ -157,8 +161,18 @@ impl Device {
         }
     }
 
-    /// The eight words of hd_status.
-    pub fn status(&self) -> [u64; 8] {
-        self.queue.as_ref().map_or([0; 8], Queue::status)
+    /// The ten words of hd_status.
+    pub fn status(&self) -> [u64; WORDS] {
+        self.queue.as_ref().map_or([0; WORDS], Queue::status)
+    }
+
+    /// Answer and words of hd_status with an out of this length: fewer than eight are refused, and fewer than ten get eight.
+    pub fn status_in(&self, out_len: usize) -> (u64, Vec<u64>) {
+        let words = self.status();
+        match out_len {
+            0..=7 => (45, Vec::new()),
+            8 | 9 => (0, words[..8].to_vec()),
+            _ => (0, words.to_vec()),
+        }
     }
 }

@@ -12,13 +12,14 @@ pub struct Seen {
 
 /// What must have been seen: answers of each call (the interface's table), reasons (01 §3), statuses of each type
 /// (03 §3), sizes and forms that the cuts have to reach.
-const WANTED: [(&str, &[u64]); 26] = [
+const WANTED: [(&str, &[u64]); 31] = [
     ("hd_memory", &[0, 20, 21, 22, 23, 24, 40]),
     ("hd_disk", &[0, 29, 30, 40, 41, 44]),
     ("hd_enable", &[0, 25, 26, 27, 28, 40, 41, 42, 43]),
     ("hd_enable_at", &[0, 25, 26, 27, 28, 40, 41, 42, 43, 46]),
     ("hd_reset", &[0, 40]),
     ("hd_status", &[0, 40, 45]),
+    ("hd_status, words of out", &[7, 8, 9, 10, 11, 12]),
     ("hd_step", &[0, 1, 2, 3, 4]),
     ("hd_step not enabled", &[4]),
     ("hd_step on a broken queue", &[3]),
@@ -26,6 +27,10 @@ const WANTED: [(&str, &[u64]); 26] = [
     ("hd_step with a short slice", &[4]),
     ("broken, reason", &[1, 2, 3, 4, 5, 6, 7, 8]),
     ("broken, step", &[1, 2, 3]),
+    ("broken at no descriptor, reason", &[1, 2]),
+    ("broken at a descriptor whose number isn't its place, reason", &[2, 3, 4, 5, 6, 7, 8]),
+    ("broken after a chain that was complete, step", &[1, 2, 3]),
+    ("broken by a chain that was complete, of another length, reason", &[8]),
     ("IN, status", &[0, 1]),
     ("OUT, status", &[0, 1]),
     ("FLUSH, status", &[0, 1]),
@@ -38,7 +43,7 @@ const WANTED: [(&str, &[u64]); 26] = [
     ("queue size", &[1, 2, 4, 8, 16, 32, 64, 128, 256]),
     ("regions", &[1, 2, 3, 4, 5, 6, 7, 8]),
     ("form", &[HEADER_CUT, PAYLOAD_CUT, STATUS_ALONE, STATUS_JOINED, WHOLE_CHAIN, WRAPPED, SEVERAL_PENDING]),
-    ("spoilt state", &[RANDOM_WORDS, ONE_WORD, REFUSED, WENT_ON, IMPOSSIBLE]),
+    ("spoilt state", &[RANDOM_WORDS, ONE_WORD, REFUSED, WENT_ON, IMPOSSIBLE, BROKEN, BROKEN_STILL, BROKEN_NO_MORE]),
 ];
 
 // forms
@@ -56,6 +61,9 @@ pub const ONE_WORD: u64 = 2;
 pub const REFUSED: u64 = 3; // one word changed, and nothing is enabled
 pub const WENT_ON: u64 = 4; // one word changed, and a step was done
 pub const IMPOSSIBLE: u64 = 5; // one word changed to what set-up refuses
+pub const BROKEN: u64 = 6; // one word of a broken queue changed
+pub const BROKEN_STILL: u64 = 7; // .. and it is broken still
+pub const BROKEN_NO_MORE: u64 = 8; // .. and nothing is enabled
 
 impl Seen {
     pub fn new() -> Seen {

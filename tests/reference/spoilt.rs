@@ -17,9 +17,9 @@ use crate::hostile;
 use crate::honest;
 use crate::library::{chain_words, state_words};
 use crate::random::Random;
-use crate::reference::Device;
+use crate::reference::{Device, Lens, NO_DESCRIPTOR, WORDS};
 use crate::request::{Disk, MOST, SECTOR};
-use crate::seen::{IMPOSSIBLE, ONE_WORD, RANDOM_WORDS, REFUSED, WENT_ON};
+use crate::seen::{BROKEN, BROKEN_NO_MORE, BROKEN_STILL, IMPOSSIBLE, ONE_WORD, RANDOM_WORDS, REFUSED, WENT_ON};
 
 /// All that is lent, as it was before a call.
 struct Before {
@@ -28,7 +28,7 @@ struct Before {
     backing: Vec<u8>,
     chain: Vec<u64>,
     stage: Vec<u8>,
-    status: [u64; 8],
+    status: [u64; WORDS],
 }
 
 impl Before {
@@ -48,18 +48,23 @@ impl Before {
     }
 }
 
-/// The library's status words, which are always within their limits.
-fn status(case: &mut Case) -> [u64; 8] {
-    let lens = case.pair.lent.lens();
+/// The library's status words, which are always within their limits, and where it broke fits what was fetched: a
+/// descriptor if there was one, else none.
+fn status(case: &mut Case) -> [u64; WORDS] {
+    let lens = Lens { out: WORDS, ..case.pair.lent.lens() };
     same("hd_status", 0, case.pair.lent.status(&lens));
-    let mut words = [0; 8];
-    words.copy_from_slice(&case.pair.lent.out.all()[..8]);
-    let limits = [1, 8, 65_535, 65_535, 7, 255, 257, u64::MAX];
+    let mut words = [0; WORDS];
+    words.copy_from_slice(case.pair.lent.out.lent(WORDS));
+    let limits = [1, 8, 65_535, 65_535, 7, 255, 257, u64::MAX, NO_DESCRIPTOR, 256];
     if words.iter().zip(&limits).any(|(word, limit)| word > limit) {
         difference(&format!("a status word beyond its limit: {:?}", words));
     }
     if words[0] == 0 {
-        all_same("status of what isn't enabled", &[0; 8], &words);
+        all_same("status of what isn't enabled", &[0; WORDS], &words);
+    } else if words[1] == 0 || words[6] == 0 {
+        same(&format!("status {:?}: at no descriptor", words), NO_DESCRIPTOR, words[8]);
+    } else {
+        same(&format!("status {:?}: at one of the table", words), true, words[8] < 256);
     }
     words
 }
@@ -153,8 +158,9 @@ fn other_value(random: &mut Random, word: u64, another: u64) -> u64 {
     random.pick(&[word.wrapping_add(1), word.wrapping_sub(1), 0, u64::MAX, edge, word ^ bit, another, small])
 }
 
-/// Changes one word, and answers which: of the state, or (then None) of chain or staging memory.
-fn spoil(case: &mut Case) -> Option<usize> {
+/// Changes one word, and answers which: of the state, every other time one that the last step `wrote` if it wrote any,
+/// or (then None) of chain or staging memory.
+fn spoil(case: &mut Case, wrote: &[usize]) -> Option<usize> {
     let random = &mut case.random;
     let lent = &mut case.pair.lent;
     if random.one_in(6) {
@@ -163,7 +169,8 @@ fn spoil(case: &mut Case) -> Option<usize> {
         lent.stage.all_mut()[byte] ^= 1;
         return None;
     }
-    let (i, other) = (random.index(state_words()), random.index(state_words()));
+    let (any, other) = (random.index(state_words()), random.index(state_words()));
+    let i = if wrote.is_empty() || random.one_in(2) { any } else { random.pick(wrote) };
     let another = lent.state.all()[other];
     let word = &mut lent.state.all_mut()[i];
     *word = other_value(random, *word, another);
@@ -229,12 +236,12 @@ fn check_backing(case: &Case, before: &[u8], next: u64, range_stands: bool) {
 fn check_status(case: &mut Case, answer: u64) {
     let words = status(case);
     let fits = match answer {
-        0 | 2 => words[..2] == [1, 0] && words[4..] == [1, 0, 0, 0],
+        0 | 2 => words[..2] == [1, 0] && words[4..9] == [1, 0, 0, 0, NO_DESCRIPTOR],
         1 => words[..2] == [1, 0] && words[4] >= 2,
         3 => words[0] == 1 && words[1] != 0 && words[4] == 0,
         _ => true,
     };
-    same(&format!("after the answer {} status {:?} fits", answer, words), true, fits || words == [0; 8]);
+    same(&format!("after the answer {} status {:?} fits", answer, words), true, fits || words == [0; WORDS]);
 }
 
 /// Set-up on such words: where a queue is enabled 41; a refusal changes nothing.
@@ -259,7 +266,7 @@ fn set_up_calls(case: &mut Case) {
 fn mend(case: &mut Case) {
     let lens = case.pair.lens;
     same("hd_reset", 0, case.pair.lent.reset(lens.state));
-    all_same("status after hd_reset", &[0; 8], &status(case));
+    all_same("status after hd_reset", &[0; WORDS], &status(case));
     let before = Before::now(case);
     same("hd_step after hd_reset", 4, case.pair.lent.step(&lens));
     before.nothing_touched(case);
@@ -270,23 +277,48 @@ fn mend(case: &mut Case) {
     case.set_up();
 }
 
+/// Some steps, until the queue breaks; answers which words the last one wrote.
+fn some_steps(case: &mut Case) -> Vec<usize> {
+    let mut wrote = Vec::new();
+    for _ in 0..case.random.below(12) {
+        let before = case.pair.lent.state.all().to_vec();
+        let answer = case.pair.step();
+        let after = case.pair.lent.state.all();
+        wrote = (0..state_words()).filter(|i| before[*i] != after[*i]).collect();
+        if answer == 3 {
+            break;
+        }
+    }
+    wrote
+}
+
+/// What has become of a broken queue.
+fn broken_then(case: &mut Case) {
+    let words = status(case);
+    case.pair.seen.add("spoilt state", BROKEN);
+    case.pair.seen.add("spoilt state", if words[0] == 0 { BROKEN_NO_MORE } else { BROKEN_STILL });
+}
+
 pub fn run(case: &mut Case, rounds: u64) {
     let of_disk = disk_words(case);
     assert!(Disk::refused(case.disk.start, case.disk.sectors, case.disk.backing_len).is_none());
     case.set_up();
     for _ in 0..rounds {
         honest::lay(case, 1);
-        for _ in 0..case.random.below(12) {
-            if case.pair.step() == 3 {
-                break;
-            }
+        if case.random.one_in(2) {
+            hostile::mischief(case);
         }
+        let wrote = some_steps(case);
         if case.random.one_in(2) {
             no_state(case);
         } else {
             let mut range_stands = true;
+            let broken = case.pair.device.status()[1] != 0;
             for _ in 0..case.random.range(1, 2) {
-                range_stands &= spoil(case).map_or(true, |word| !of_disk.contains(&word));
+                range_stands &= spoil(case, &wrote).map_or(true, |word| !of_disk.contains(&word));
+            }
+            if broken {
+                broken_then(case);
             }
             for _ in 0..case.random.below(16) {
                 step(case, range_stands);

@@ -1,7 +1,7 @@
 //! The steps S1 to S7 of the schedule, each as documents 01 §3 and 03 §3 have it. Private copies are plain vectors.
 
 use crate::areas::Areas;
-use crate::reference::Enabling;
+use crate::reference::{Enabling, NO_DESCRIPTOR, WORDS};
 use crate::regions::Memory;
 use crate::request::{header, reported, status, Disk, GET_ID, IN, OUT};
 
@@ -83,6 +83,10 @@ pub struct Queue {
     pub taken: u16,
     pub answered: u16,
     pub broken: u64,
+    /// The descriptor at which the chain was refused.
+    pub broken_at: Option<u16>,
+    /// How many descriptors the last chain had that was complete.
+    pub last_chain: u64,
     pub next: Next,
     pub request: Option<Request>,
 }
@@ -105,12 +109,14 @@ fn put(memory: &Memory, mem: &mut [u8], address: u64, bytes: &[u8]) {
 impl Queue {
     pub fn new(words: &Enabling, start: u16) -> Queue {
         let Enabling { areas, chain_len, stage_len, .. } = *words;
-        Queue { areas, chain_len, stage_len, taken: start, answered: start, broken: 0, next: Next::Poll, request: None }
+        let (taken, answered, next) = (start, start, Next::Poll);
+        Queue { areas, chain_len, stage_len, taken, answered, broken: 0, broken_at: None, last_chain: 0, next, request: None }
     }
 
-    pub fn status(&self) -> [u64; 8] {
+    pub fn status(&self) -> [u64; WORDS] {
         let next = if self.broken != 0 { 0 } else { self.next as u64 };
-        let mut words = [1, self.broken, self.taken as u64, self.answered as u64, next, 0, 0, 0];
+        let at = self.broken_at.map_or(NO_DESCRIPTOR, u64::from);
+        let mut words = [1, self.broken, self.taken as u64, self.answered as u64, next, 0, 0, 0, at, self.last_chain];
         if let Some(request) = &self.request {
             words[5] = request.head as u64;
             words[6] = request.fetched;
@@ -167,8 +173,18 @@ impl Queue {
         Ok(self.go_on(Next::Descriptor))
     }
 
-    /// S3. 01 §3.3 and §3.4.
+    /// S3. Whatever is wrong, it is with the descriptor that this step fetches.
     fn descriptor(&mut self, memory: &Memory, mem: &[u8]) -> Result<u64, u64> {
+        let fetched = self.at_hand().descriptor;
+        let done = self.follow(memory, mem);
+        if done.is_err() {
+            self.broken_at = Some(fetched);
+        }
+        done
+    }
+
+    /// 01 §3.3 and §3.4.
+    fn follow(&mut self, memory: &Memory, mem: &[u8]) -> Result<u64, u64> {
         let areas = self.areas;
         let request = self.at_hand();
         let bytes = guest(memory, mem, areas.descriptor(request.descriptor), 16);
@@ -179,6 +195,9 @@ impl Queue {
             request.descriptor = next;
             return Ok(1);
         }
+        let complete = request.chain.len() as u64;
+        self.last_chain = complete;
+        let request = self.at_hand();
         if !request.chain.iter().any(|buffer| buffer.writable) {
             return Err(8);
         }

@@ -22,6 +22,7 @@
 #define DATA 0x80005000ull
 #define STATUS 0x80006000ull
 #define D(i) (DESC + 16 * (i))  // a descriptor: addr at 0, len at 8, flags at 12, next at 14
+enum { OUT_LEAST = 7, OUT_MOST = 12, NONE = HD_NO_DESCRIPTOR };
 enum { MEM = 65536, Q = 8, SECTORS = 64, DISK = 512 * SECTORS, STAGE = 1048576 };
 enum { START = 1537, BACKING = START + DISK + 999 };  // the disk inside a larger backing slice
 
@@ -92,7 +93,8 @@ static size_t size[SLICES], words, chain_words;
 #define backing ((uint8_t *)lent[OF_BACKING])
 #define chain ((uint64_t *)lent[OF_CHAIN])
 #define stage ((uint8_t *)lent[OF_STAGE])
-static uint64_t *scant, *out, *out7;  // scant: a state one word too short; out7: too short for hd_status
+static uint64_t *scant, *out;         // scant: a state one word too short; out: all the words of hd_status
+static uint64_t *out_of[OUT_MOST + 1];  // out_of[n]: n words for hd_status, from OUT_LEAST on
 static uint64_t *list[28];            // list[n]: n words for regions
 static uint8_t *id, *id_of[22];       // id: "SCRATCH-0007"; id_of[n]: n bytes, for 0, 19 and 21
 static uint8_t want_mem[MEM], want_backing[BACKING];
@@ -109,7 +111,8 @@ static inline void lend_all(int at_low_end)
     size[OF_STATE] = 8 * words, size[OF_MEM] = MEM, size[OF_BACKING] = BACKING, size[OF_CHAIN] = 8 * chain_words, size[OF_STAGE] = STAGE;
     for (int i = 0; i < SLICES; i++) lent[i] = lend(size[i]), spare[i] = lend(size[i]);
     for (size_t n = 0; n < COUNT(list); n++) list[n] = lend(8 * n);
-    scant = lend(8 * (words - 1)), out = lend(8 * 8), out7 = lend(8 * 7);
+    scant = lend(8 * (words - 1)), out = lend(8 * HD_STATUS_WORDS);
+    for (size_t n = OUT_LEAST; n <= OUT_MOST; n++) out_of[n] = lend(8 * n);
     id = lend(20), id_of[0] = lend(0), id_of[19] = lend(19), id_of[21] = lend(21);
     memset(id, 0, 20), memcpy(id, "SCRATCH-0007", 12), memset(scant, 0, 8 * (words - 1));
 }
@@ -180,16 +183,32 @@ static inline void set_up(const char *name, uint64_t read_only)  // memory and d
 
 static inline void begin(const char *name) { set_up(name, 0), same("hd_enable", 0, enable()); }
 
+// The same with an out of every length: 45 for 7 words, the first eight for 8 and 9, all ten for more; the others stay.
+static inline void status_in_every_length(const uint64_t *want)
+{
+    uint64_t unwritten[OUT_MOST];
+    memset(unwritten, 0xee, sizeof unwritten);
+    for (size_t n = OUT_LEAST; n <= OUT_MOST; n++) {
+        const size_t written = n < HD_STATUS_WORDS_LEAST ? 0 : n < HD_STATUS_WORDS ? HD_STATUS_WORDS_LEAST : HD_STATUS_WORDS;
+        memset(out_of[n], 0xee, 8 * n);
+        same("hd_status, an out of another length", written ? 0 : 45, hd_status(state, words, out_of[n], n));
+        same_bytes("the words written to it", want, out_of[n], 8 * written);
+        same_bytes("the words behind them", unwritten, out_of[n] + written, 8 * (n - written));
+    }
+}
+
 static inline void status_is(const uint64_t *want)
 {
-    static const char *const names[] = {"enabled", "broken reason", "taken", "answered", "next step", "head", "descriptors fetched", "bytes fetched"};
-    memset(out, 0xee, 8 * 8);
-    same("hd_status", 0, hd_status(state, words, out, 8));
-    for (int i = 0; i < 8; i++) same(names[i], want[i], out[i]);
+    static const char *const names[] = {"enabled", "broken reason", "taken", "answered", "next step", "head", "descriptors fetched", "bytes fetched",
+                                        "broken at", "last chain"};
+    memset(out, 0xee, 8 * HD_STATUS_WORDS);
+    same("hd_status", 0, hd_status(state, words, out, HD_STATUS_WORDS));
+    for (int i = 0; i < HD_STATUS_WORDS; i++) same(names[i], want[i], out[i]);
+    status_in_every_length(want);
 }
-#define STATUS_IS(...) status_is((const uint64_t[8]){__VA_ARGS__})
+#define STATUS_IS(...) status_is((const uint64_t[HD_STATUS_WORDS]){__VA_ARGS__})
 
-struct at { uint64_t answer, status[8]; };
+struct at { uint64_t answer, status[HD_STATUS_WORDS]; };
 static inline void walk(const struct at *at, size_t n)  // n steps, each with its answer and what hd_status says after it
 {
     for (size_t i = 0; i < n; i++) same("hd_step", at[i].answer, step()), status_is(at[i].status);

@@ -101,7 +101,7 @@ static void group_set_up(void)
         set_up(queues[k].row, 0), keep();
         if (i % 2) answers("hd_enable_at", queues[k].want, hd_enable_at(state, words, a, d, v, u, n, m, s));
         else if (queues[k].want != 46) answers("hd_enable", queues[k].want, hd_enable(state, words, a, d, v, u, n, m));
-        if (queues[k].want == 0) STATUS_IS(1, 0, s, s, 1, 0, 0, 0);
+        if (queues[k].want == 0) STATUS_IS(1, 0, s, s, 1, 0, 0, 0, NONE, 0);
         as_expected();
     }
     set_up("27: an area that spans two adjoining regions", 0);
@@ -117,14 +117,13 @@ static void group_state(void)
     same("hd_enable, size 0", 40, hd_enable(scant, words - 1, 0, 1, 1, 1, 0, 0));
     same("hd_enable_at, size 0", 40, hd_enable_at(scant, words - 1, 0, 1, 1, 1, 0, 0, TOP));
     same("hd_reset", 40, hd_reset(scant, words - 1));
-    same("hd_status, out too short", 40, hd_status(scant, words - 1, out7, 7));
+    same("hd_status, out too short", 40, hd_status(scant, words - 1, out_of[7], 7));
     same("hd_step", 4, hd_step(scant, words - 1, mem, MEM, backing, BACKING, chain, chain_words, stage, STAGE));
     blank("a state of zeros"), keep();
     answers("hd_step", 4, step()), answers("hd_step, no slices", 4, hd_step(state, words, mem, 0, backing, 0, chain, 0, stage, 0));
     answers("hd_disk", 41, disk(0)), answers("hd_disk, 19 bytes", 41, hd_disk(state, words, TOP, 0, 0, id_of[19], 19, 0));
     answers("hd_enable", 41, enable()), answers("hd_enable, size 0", 41, hd_enable(state, words, 0, 1, 1, 1, 0, 0)), status_is(zeros);
-    memset(out7, 0xee, 8 * 7), memset(out, 0xee, 8 * 8);
-    answers("hd_status, out too short", 45, hd_status(state, words, out7, 7)), same_bytes("out after a refusal", out, out7, 8 * 7);
+    answers("hd_status, out too short", 45, hd_status(state, words, out_of[7], 7));
     same("hd_reset", 0, hd_reset(state, words)), status_is(zeros), same("hd_step after hd_reset", 4, step()), as_expected();
 
     blank("41: no disk yet"), same("hd_memory", 0, memory((uint64_t[]){GUEST, MEM, 0}, 3)), keep();
@@ -158,4 +157,50 @@ static void group_state(void)
         if (i == 7) expect(USED + 2, 2, 1);
         steps(i == 7 ? "2" : "1"), as_expected();
     }
+}
+
+// ---- state words that no step makes (their places: crates/words/specs/Layout.antt)
+
+enum { STATE_WORDS = 53, FETCHED = 44, BROKEN_AT = 49, LAST_CHAIN = 52 };
+
+static const struct { const char *row; int is_state; unsigned word; uint64_t value; } spoilt[] = {  // of a queue of 8
+    {"broken, at descriptor 7", 1, BROKEN_AT, 7},
+    {"broken, at descriptor 8 of 8", 0, BROKEN_AT, 8},
+    {"broken, at none, though descriptors were fetched", 0, BROKEN_AT, NONE},
+    {"broken, at 2^64 - 1", 0, BROKEN_AT, TOP},
+    {"broken, at a descriptor, though none was fetched", 0, FETCHED, 0},
+    {"broken, nine descriptors fetched", 1, FETCHED, 9},
+    {"broken, a last chain of 8", 1, LAST_CHAIN, 8},
+    {"broken, a last chain of 9", 0, LAST_CHAIN, 9},
+};
+
+static void is_state(int so, uint64_t answer, const uint64_t *want)
+{
+    keep(), same("hd_step", so ? answer : 4, step()), status_is(so ? want : zeros);
+    if (!so || answer == 3) same_bytes("state", before, state, 8 * words);
+    as_expected();
+}
+
+static void group_spoilt(void)
+{
+    row = "sizes", same("hd_state_words", STATE_WORDS, words);
+    if (words != STATE_WORDS) return;
+    for (size_t i = 0; i < COUNT(spoilt); i++) {
+        begin(spoilt[i].row), lay_scattered(), poke(D(5) + 8, 4, 0), steps("11113"), STATUS_IS(1, 5, 0, 0, 0, 6, 3, 0, 5, 0);
+        const unsigned word = spoilt[i].word;
+        uint64_t want[HD_STATUS_WORDS];
+        memcpy(want, out, sizeof want), state[word] = spoilt[i].value;
+        want[word == FETCHED ? HD_STATUS_DESCRIPTORS : word == BROKEN_AT ? HD_STATUS_BROKEN_AT : HD_STATUS_LAST_CHAIN] = spoilt[i].value;
+        is_state(spoilt[i].is_state, 3, want);
+    }
+    for (uint64_t at = 0; at <= NONE; at += at == 8 ? NONE - 8 : 1) {  // reason 1: no descriptor was fetched
+        begin("broken, idx 9, at some descriptor"), lay_v1(), poke(AVAIL + 2, 2, 9), steps("3"), state[BROKEN_AT] = at;
+        is_state(at == NONE, 3, (const uint64_t[HD_STATUS_WORDS]){1, 1, 0, 0, 0, 0, 0, 0, NONE, 0});
+    }
+    for (uint64_t n = 0; n <= 9; n++) {  // before S1 too, where there is nothing to do
+        begin("in order, some last chain"), poke(AVAIL + 2, 2, 0), state[LAST_CHAIN] = n;
+        is_state(n <= 8, 0, (const uint64_t[HD_STATUS_WORDS]){1, 0, 0, 0, 1, 0, 0, 0, NONE, n});
+    }
+    begin("in order, a last chain of 2^64 - 1"), state[LAST_CHAIN] = TOP, is_state(0, 0, zeros);
+    same("hd_enable", 41, enable()), same("hd_disk", 41, disk(0)), same("hd_reset", 0, hd_reset(state, words)), status_is(zeros);
 }

@@ -4,7 +4,7 @@
 #define _DEFAULT_SOURCE
 #include "bench.h"
 
-static const uint64_t zeros[8];
+static const uint64_t zeros[HD_STATUS_WORDS];
 static const uint8_t *const sector3 = want_backing + START + 3 * 512;
 
 // ---- 01 §6
@@ -22,12 +22,12 @@ static void lay_v1(void)
 static void v1(int moving)
 {
     static const struct at at[] = {
-        {1, {1, 0, 0, 0, 2, 0, 0, 0}}, {1, {1, 0, 0, 0, 3, 0, 0, 0}}, {1, {1, 0, 0, 0, 3, 0, 1, 0}}, {1, {1, 0, 0, 0, 3, 0, 2, 0}},
-        {1, {1, 0, 0, 0, 4, 0, 3, 0}}, {1, {1, 0, 0, 0, 6, 0, 3, 16}}, {1, {1, 0, 0, 0, 7, 0, 3, 16}}, {2, {1, 0, 1, 1, 1, 0, 0, 0}},
-        {0, {1, 0, 1, 1, 1, 0, 0, 0}}};
+        {1, {1, 0, 0, 0, 2, 0, 0, 0, NONE, 0}}, {1, {1, 0, 0, 0, 3, 0, 0, 0, NONE, 0}}, {1, {1, 0, 0, 0, 3, 0, 1, 0, NONE, 0}},
+        {1, {1, 0, 0, 0, 3, 0, 2, 0, NONE, 0}}, {1, {1, 0, 0, 0, 4, 0, 3, 0, NONE, 3}}, {1, {1, 0, 0, 0, 6, 0, 3, 16, NONE, 3}},
+        {1, {1, 0, 0, 0, 7, 0, 3, 16, NONE, 3}}, {2, {1, 0, 1, 1, 1, 0, 0, 0, NONE, 3}}, {0, {1, 0, 1, 1, 1, 0, 0, 0, NONE, 3}}};
     static const uint8_t data[] = {0x03, 0x0a, 0x11, 0x18, 0x1f, 0x26, 0x2d, 0x34}, used[] = {0, 0, 1, 0, 0, 0, 0, 0, 1, 2, 0, 0};
     lay_v1();
-    STATUS_IS(1, 0, 0, 0, 1, 0, 0, 0);
+    STATUS_IS(1, 0, 0, 0, 1, 0, 0, 0, NONE, 0);
     for (size_t i = 0; i < COUNT(at); i++) {
         if (i == 6) expect_bytes(DATA, sector3, 512), expect(STATUS, 1, 0), expect_used(0, 0, 513, 0);  // S6
         if (i == 7) expect_bytes(USED, used, 12);                                                      // S7
@@ -50,9 +50,10 @@ static void group_v1(void)
 static void group_wrap(void)
 {
     static const struct at at[] = {
-        {1, {1, 0, 65535, 65535, 2, 0, 0, 0}}, {1, {1, 0, 65535, 65535, 3, 0, 0, 0}}, {1, {1, 0, 65535, 65535, 3, 0, 1, 0}},
-        {1, {1, 0, 65535, 65535, 4, 0, 2, 0}}, {1, {1, 0, 65535, 65535, 6, 0, 2, 16}}, {1, {1, 0, 65535, 65535, 7, 0, 2, 16}},
-        {2, {1, 0, 0, 0, 1, 0, 0, 0}}, {0, {1, 0, 0, 0, 1, 0, 0, 0}}};
+        {1, {1, 0, 65535, 65535, 2, 0, 0, 0, NONE, 0}}, {1, {1, 0, 65535, 65535, 3, 0, 0, 0, NONE, 0}},
+        {1, {1, 0, 65535, 65535, 3, 0, 1, 0, NONE, 0}}, {1, {1, 0, 65535, 65535, 4, 0, 2, 0, NONE, 2}},
+        {1, {1, 0, 65535, 65535, 6, 0, 2, 16, NONE, 2}}, {1, {1, 0, 65535, 65535, 7, 0, 2, 16, NONE, 2}},
+        {2, {1, 0, 0, 0, 1, 0, 0, 0, NONE, 2}}, {0, {1, 0, 0, 0, 1, 0, 0, 0, NONE, 2}}};
     static const struct { const char *row; unsigned idx; size_t steps; } rows[] = {
         {"wrap", 0, COUNT(at)}, {"wrap, idx 7: eight are pending", 7, COUNT(at) - 1}, {"wrap, idx 8: nine are pending", 8, 0}};
     for (size_t i = 0; i < COUNT(rows); i++) {
@@ -62,7 +63,7 @@ static void group_wrap(void)
         poke(AVAIL + 2, 2, rows[i].idx), poke(AVAIL + 4, 2, 8), poke(AVAIL + 4 + 2 * 7, 2, 0), poke(USED + 2, 2, 65535);
         walk(at, rows[i].steps);
         if (rows[i].steps) expect(STATUS, 1, 0), expect(0x8000303c, 8, 1ull << 32), expect(USED + 2, 2, 0);
-        else steps("3"), STATUS_IS(1, 1, 65535, 65535, 0, 0, 0, 0);
+        else steps("3"), STATUS_IS(1, 1, 65535, 65535, 0, 0, 0, 0, NONE, 0);
         as_expected();
     }
 }
@@ -77,54 +78,62 @@ static void lay_eight(unsigned flags)  // 16 r and writable 512, 512, 512, 512, 
 }
 
 struct poke { uint64_t at; unsigned n; uint64_t value; };
-static const struct { const char *row; uint64_t reason, fetched; struct poke pokes[6]; } broken[] = {
-    {"idx 9", 1, 0, {{AVAIL + 2, 2, 9}}},
-    {"entry 8", 2, 0, {{AVAIL + 4, 2, 8}}},
-    {"descriptor 0: next 8", 2, 1, {{D(0) + 14, 2, 8}}},
-    {"descriptor 0: next 0", 3, 9, {{D(0) + 14, 2, 0}}},
-    {"descriptor 1: NEXT and WRITE, next 1", 3, 9, {{D(1) + 12, 2, 3}, {D(1) + 14, 2, 1}}},
-    {"descriptor 0: flags 5", 4, 1, {{D(0) + 12, 2, 5}}},
-    {"descriptor 0: flags 9", 4, 1, {{D(0) + 12, 2, 9}}},
-    {"descriptor 1: len 0", 5, 2, {{D(1) + 8, 4, 0}}},
-    {"descriptor 1 at 0x8000fe00", 6, 2, {{D(1), 8, 0x8000fe00}}},
-    {"descriptor 1 at 0x7fffffff", 6, 2, {{D(1), 8, 0x7fffffff}}},
-    {"descriptor 1 at 2^64 - 1", 6, 2, {{D(1), 8, TOP}}},
-    {"descriptor 1 at 0x80000000 with len 2^32 - 1", 6, 2, {{D(1), 8, GUEST}, {D(1) + 8, 4, 0xffffffff}}},
-    {"a writable buffer first, the header after it", 7, 2,
+static const struct { const char *row; uint64_t reason, fetched, at, last; struct poke pokes[6]; } broken[] = {
+    {"idx 9", 1, 0, NONE, 0, {{AVAIL + 2, 2, 9}}},
+    {"entry 8", 2, 0, NONE, 0, {{AVAIL + 4, 2, 8}}},
+    {"descriptor 0: next 8", 2, 1, 0, 0, {{D(0) + 14, 2, 8}}},
+    {"descriptor 0: next 0", 3, 9, 0, 0, {{D(0) + 14, 2, 0}}},
+    {"descriptor 1: NEXT and WRITE, next 1", 3, 9, 1, 0, {{D(1) + 12, 2, 3}, {D(1) + 14, 2, 1}}},
+    {"descriptor 0: flags 5", 4, 1, 0, 0, {{D(0) + 12, 2, 5}}},
+    {"descriptor 0: flags 9", 4, 1, 0, 0, {{D(0) + 12, 2, 9}}},
+    {"descriptor 1: len 0", 5, 2, 1, 0, {{D(1) + 8, 4, 0}}},
+    {"descriptor 1 at 0x8000fe00", 6, 2, 1, 0, {{D(1), 8, 0x8000fe00}}},
+    {"descriptor 1 at 0x7fffffff", 6, 2, 1, 0, {{D(1), 8, 0x7fffffff}}},
+    {"descriptor 1 at 2^64 - 1", 6, 2, 1, 0, {{D(1), 8, TOP}}},
+    {"descriptor 1 at 0x80000000 with len 2^32 - 1", 6, 2, 1, 0, {{D(1), 8, GUEST}, {D(1) + 8, 4, 0xffffffff}}},
+    {"a writable buffer first, the header after it", 7, 2, 1, 0,
         {{D(0), 8, DATA}, {D(0) + 8, 4, 513}, {D(0) + 12, 2, 3}, {D(1), 8, HEADER}, {D(1) + 8, 4, 16}, {D(1) + 12, 2, 0}}},
-    {"descriptor 0 without NEXT", 8, 1, {{D(0) + 12, 2, 0}}},
-    {"§1: descriptor 1 at 2^32 + 0x80005000", 6, 2, {{D(1), 8, (1ull << 32) + DATA}}},  // not a row of §6
+    {"descriptor 0 without NEXT", 8, 1, 0, 1, {{D(0) + 12, 2, 0}}},
+    {"§1: descriptor 1 at 2^32 + 0x80005000", 6, 2, 1, 0, {{D(1), 8, (1ull << 32) + DATA}}},  // not a row of §6
 };
 
-static void breaks(uint64_t reason, uint64_t head, uint64_t fetched)
+static void breaks(uint64_t reason, uint64_t head, uint64_t fetched, uint64_t at, uint64_t last)
 {
     for (uint64_t i = 0; i < (reason == 1 ? 0 : 1 + fetched); i++) steps("1");
     for (int again = 0; again < 2; again++) {
-        steps("3"), STATUS_IS(1, reason, 0, 0, 0, head, fetched, 0), as_expected();
+        steps("3"), STATUS_IS(1, reason, 0, 0, 0, head, fetched, 0, at, last), as_expected();
         lay_joined();  // the driver mends what it did: too late
     }
     same("hd_step, broken, short slices", 3, hd_step(state, words, mem, 0, backing, 0, chain, 0, stage, 0));
     same("hd_disk, broken", 41, disk(0)), same("hd_enable, broken", 41, enable()), as_expected();
 }
 
+static void poke_all(const struct poke *pokes)
+{
+    for (int k = 0; k < 6 && pokes[k].n; k++) poke(pokes[k].at, pokes[k].n, pokes[k].value);
+}
+
 static void group_broken(void)
 {
     for (size_t i = 0; i < COUNT(broken); i++) {
-        begin(broken[i].row), lay_joined();
-        for (int k = 0; k < 6 && broken[i].pokes[k].n; k++) poke(broken[i].pokes[k].at, broken[i].pokes[k].n, broken[i].pokes[k].value);
-        breaks(broken[i].reason, 0, broken[i].fetched);
+        begin(broken[i].row), lay_joined(), poke_all(broken[i].pokes);
+        breaks(broken[i].reason, 0, broken[i].fetched, broken[i].at, broken[i].last);
     }
-    begin("a chain of exactly 8 descriptors with NEXT on the eighth"), lay_eight(3), breaks(3, 0, 9);
+    begin("a chain of exactly 8 descriptors with NEXT on the eighth"), lay_eight(3), breaks(3, 0, 9, 0, 0);
     begin("a head of 3 whose second descriptor has len 0"), lay_joined();
-    describe(3, HEADER, 16, 1, 1), poke(D(1) + 8, 4, 0), poke(AVAIL + 4, 2, 3), breaks(5, 3, 2);
+    describe(3, HEADER, 16, 1, 1), poke(D(1) + 8, 4, 0), poke(AVAIL + 4, 2, 3), breaks(5, 3, 2, 1, 0);
 }
+
+// ---- where it broke
+
+#include "where.h"
 
 static void group_answered(void)
 {
     begin("idx 8, all entries 0"), lay_joined(), poke(AVAIL + 2, 2, 8), expect_bytes(DATA, sector3, 512), expect(DATA + 512, 1, 0);
     for (unsigned i = 0; i < 8; i++) poke(AVAIL + 4 + 2 * i, 2, 0), expect_used(i, 0, 513, i + 1);
     for (unsigned i = 0; i < 8; i++) steps("1111112");
-    steps("0"), STATUS_IS(1, 0, 8, 8, 1, 0, 0, 0), as_expected();
+    steps("0"), STATUS_IS(1, 0, 8, 8, 1, 0, 0, 0, NONE, 2), as_expected();
 
     begin("descriptor 1 at 0x8000fdff"), lay_joined(), poke(D(1), 8, 0x8000fdff);
     expect_bytes(0x8000fdff, sector3, 512), expect(0x8000ffff, 1, 0), expect_used(0, 0, 513, 1), steps("11111120"), as_expected();
@@ -219,7 +228,7 @@ static void request(const struct request *q)
     for (; got == 1 && count < 100; count++) got = step();
     same("the last step's answer", 2, got), same("number of steps", q->steps, count), same("status byte", q->status, *in(mem, last)), as_expected();
     if (q->first) same_bytes("data as the document has it", q->first, in(mem, DATA), strlen(q->first));
-    steps("0"), STATUS_IS(1, 0, 1, 1, 1, 0, 0, 0);
+    steps("0"), STATUS_IS(1, 0, 1, 1, 1, 0, 0, 0, NONE, buffers);
 }
 
 static void group_requests(void)
@@ -230,9 +239,10 @@ static void group_requests(void)
 static void group_out(void)
 {
     static const struct at at[] = {
-        {1, {1, 0, 0, 0, 2, 0, 0, 0}}, {1, {1, 0, 0, 0, 3, 3, 0, 0}}, {1, {1, 0, 0, 0, 3, 3, 1, 0}}, {1, {1, 0, 0, 0, 3, 3, 2, 0}},
-        {1, {1, 0, 0, 0, 4, 3, 3, 0}}, {1, {1, 0, 0, 0, 4, 3, 3, 10}}, {1, {1, 0, 0, 0, 5, 3, 3, 16}}, {1, {1, 0, 0, 0, 6, 3, 3, 528}},
-        {1, {1, 0, 0, 0, 7, 3, 3, 528}}, {2, {1, 0, 1, 1, 1, 0, 0, 0}}, {0, {1, 0, 1, 1, 1, 0, 0, 0}}};
+        {1, {1, 0, 0, 0, 2, 0, 0, 0, NONE, 0}}, {1, {1, 0, 0, 0, 3, 3, 0, 0, NONE, 0}}, {1, {1, 0, 0, 0, 3, 3, 1, 0, NONE, 0}},
+        {1, {1, 0, 0, 0, 3, 3, 2, 0, NONE, 0}}, {1, {1, 0, 0, 0, 4, 3, 3, 0, NONE, 3}}, {1, {1, 0, 0, 0, 4, 3, 3, 10, NONE, 3}},
+        {1, {1, 0, 0, 0, 5, 3, 3, 16, NONE, 3}}, {1, {1, 0, 0, 0, 6, 3, 3, 528, NONE, 3}}, {1, {1, 0, 0, 0, 7, 3, 3, 528, NONE, 3}},
+        {2, {1, 0, 1, 1, 1, 0, 0, 0, NONE, 3}}, {0, {1, 0, 1, 1, 1, 0, 0, 0, NONE, 3}}};
     static const uint8_t chain364[3][16] = {
         {0x00, 0x40, 0x00, 0x80, 0x00, 0x00, 0x00, 0x00, 0x0a, 0x00, 0x00, 0x00, 0x01, 0x00, 0x06, 0x00},
         {0x00, 0x41, 0x00, 0x80, 0x00, 0x00, 0x00, 0x00, 0x06, 0x02, 0x00, 0x00, 0x01, 0x00, 0x04, 0x00},
@@ -259,16 +269,16 @@ static void group_out(void)
         for (unsigned i = 1; i < 4; i++) describe(i, DATA + 0x200 * i, (uint32_t[]){100, 300, 112}[i - 1], 1, i + 1);
         describe(0, HEADER, 16, 1, 1), describe(4, STATUS, 1, 2, 0);
         poke_bytes(DATA + 0x200, data, 100), poke_bytes(DATA + 0x400, data + 100, 300), poke_bytes(DATA + 0x600, data + 400, 112);
-        steps("11111111"), STATUS_IS(1, 0, 0, 0, 5, 0, 5, 16), as_expected();
-        steps("1"), STATUS_IS(1, 0, 0, 0, 5, 0, 5, 116), as_expected(), poke(DATA + 0x200, 8, 0);
-        steps("1"), STATUS_IS(1, 0, 0, 0, 5, 0, 5, 416), as_expected(), poke(DATA + 0x400, 8, 0);
+        steps("11111111"), STATUS_IS(1, 0, 0, 0, 5, 0, 5, 16, NONE, 5), as_expected();
+        steps("1"), STATUS_IS(1, 0, 0, 0, 5, 0, 5, 116, NONE, 5), as_expected(), poke(DATA + 0x200, 8, 0);
+        steps("1"), STATUS_IS(1, 0, 0, 0, 5, 0, 5, 416, NONE, 5), as_expected(), poke(DATA + 0x400, 8, 0);
         if (reset) {
             same("hd_reset", 0, hd_reset(state, words)), status_is(zeros), steps("4"), as_expected();
             same("hd_enable", 0, enable()), v1(0);
             continue;
         }
         memcpy(want_backing + START + 3 * 512, data, 512);
-        steps("1"), STATUS_IS(1, 0, 0, 0, 6, 0, 5, 528), as_expected(), poke(DATA + 0x600, 8, 0);
+        steps("1"), STATUS_IS(1, 0, 0, 0, 6, 0, 5, 528, NONE, 5), as_expected(), poke(DATA + 0x600, 8, 0);
         expect(STATUS, 1, 0), expect_used(0, 0, 1, 1), steps("120"), as_expected();
     }
 }
@@ -280,8 +290,9 @@ static void group_out(void)
 int main(void)
 {
     static const struct { const char *name; void (*run)(void); } groups[] = {
-        {"01 §6 V1", group_v1}, {"01 §6 wrap", group_wrap}, {"01 §6 broken", group_broken}, {"01 §6 answered", group_answered},
-        {"03 §6 requests", group_requests}, {"03 §6 split OUT", group_out}, {"set-up", group_set_up}, {"state, reset, slices", group_state}};
+        {"01 §6 V1", group_v1}, {"01 §6 wrap", group_wrap}, {"01 §6 broken", group_broken}, {"where it broke", group_where},
+        {"01 §6 answered", group_answered}, {"03 §6 requests", group_requests}, {"03 §6 split OUT", group_out}, {"set-up", group_set_up},
+        {"state, reset, slices", group_state}, {"spoilt words", group_spoilt}};
     signal(SIGSEGV, fault), signal(SIGBUS, fault);
     for (int round = 0; round < 2; round++) {
         lend_all(round), before = malloc(8 * words);

@@ -27,7 +27,7 @@ static void *guest(void *seed)
 
 // ---- the host
 
-static unsigned long kinds[STEP_NUMBERS], reasons[REASONS];
+static unsigned long kinds[STEP_NUMBERS], reasons[REASONS], at_head, at_next;
 
 static void enable_at(uint64_t start)
 {
@@ -36,9 +36,22 @@ static void enable_at(uint64_t start)
     same("hd_enable_at", 0, hd_enable_at(state, words, q, DESC, AVAIL, USED, hd_chain_words(q), STAGE, start));
 }
 
+// Where it broke: at a descriptor of the table, if one was fetched.
+static void says_where(void)
+{
+    const uint64_t q = queue_size, reason = out[1], fetched = out[6], at = out[8], last = out[9];
+    same("broken at a descriptor, if one was fetched", fetched > 0, at < q);
+    if (fetched == 0) same("broken at no descriptor", NONE, at);
+    if (reason != 2) same("a descriptor was fetched, but for reason 1", reason > 1, fetched > 0);
+    same("reason 3 is number q + 1, and no other is", reason == 3, fetched == q + 1);
+    if (reason == 8) same("the chain was complete", fetched, last);
+    same("the last chain is no longer than the queue", 1, last <= q);
+    at_head += reason == 2 && fetched == 0, at_next += reason == 2 && fetched > 0;
+}
+
 static void start_anew(void)  // after a break, where the queue was: what the guest offers there is still plausible
 {
-    same("hd_status", 0, hd_status(state, words, out, 8));
+    same("hd_status", 0, hd_status(state, words, out, HD_STATUS_WORDS)), says_where();
     if (out[1] < 1 || out[1] > 8) same("a known reason", 1, out[1]);
     else reasons[out[1]]++;
     same("hd_reset", 0, hd_reset(state, words)), enable_at(out[1] == 1 ? (uint16_t)(out[2] + 1) : out[2]);
@@ -109,6 +122,6 @@ int main(int argc, char **argv)
     setvbuf(stdout, NULL, _IOLBF, 0), signal(SIGSEGV, fault), signal(SIGBUS, fault);
     row = "scribble", printf("scribble: seed %llu, %llu steps\n", (unsigned long long)seed, (unsigned long long)steps);
     for (int round = 0; round < 2 && !failed; round++) round_of(seed + (uint64_t)round, round, steps / 2);
-    if (!failed) coverage("scribble", kinds, reasons);
+    if (!failed) coverage("scribble", kinds, reasons), same("reason 2 was seen of a head", 1, at_head > 0), same("and of a next", 1, at_next > 0);
     return ended("scribble");
 }

@@ -26,7 +26,7 @@ static inline void lend_world(int at_low_end, size_t mem_len, size_t backing_len
     low = at_low_end, words = hd_state_words(), chain_words = hd_chain_words(longest_queue);
     size[OF_STATE] = 8 * words, size[OF_MEM] = mem_len, size[OF_BACKING] = backing_len, size[OF_CHAIN] = 8 * chain_words, size[OF_STAGE] = STAGE;
     for (int i = 0; i < SLICES; i++) lent[i] = lend(size[i]);
-    out = lend(8 * 8), id = lend(20);
+    out = lend(8 * HD_STATUS_WORDS), id = lend(20);
     memset(state, 0, size[OF_STATE]), memset(id, 0, 20), memcpy(id, "SCRATCH-0007", 12);
 }
 
@@ -35,7 +35,7 @@ static inline void lend_world(int at_low_end, size_t mem_len, size_t backing_len
 // Before S7: idx must not be seen earlier than data, status and used entry (S6).
 static inline uint64_t step_beside_a_driver(unsigned long *kinds)
 {
-    same("hd_status", 0, hd_status(state, words, out, 8));
+    same("hd_status", 0, hd_status(state, words, out, HD_STATUS_WORDS));
     const uint64_t number = out[4];
     if (number < STEP_NUMBERS) kinds[number]++;
     if (number == 7) atomic_thread_fence(memory_order_seq_cst);

@@ -15,7 +15,9 @@ static struct {
     struct span buffers[LONGEST + 2];
     uint64_t r, w, skip, got;
     uint8_t header[16];
+    uint64_t descriptor, ends;  // the descriptor that S3 fetched last, and whether it is without NEXT
 } at_hand;
+static struct { uint64_t broken_at, last_chain; } where;  // what hd_status has to say (words 8 and 9)
 
 // ---- what this step may do, and what it did
 
@@ -55,6 +57,7 @@ static void plan_descriptor(void)  // S3
 {
     const uint64_t from = offset_of(D(at_hand.next), 16), len = number_at(from + 8, 4), flags = number_at(from + 12, 2);
     plan.fetch = (struct span){from, 16};
+    at_hand.descriptor = at_hand.next, at_hand.ends = !(flags & 1);
     at_hand.next = number_at(from + 14, 2);
     if (at_hand.count > LONGEST) return;
     at_hand.buffers[at_hand.count++] = (struct span){offset_of(number_at(from, 8), len), len};

@@ -11,7 +11,8 @@ static unsigned long kinds[STEP_NUMBERS], reasons[REASONS], disk_writes;
 
 static const uint64_t *status(void)
 {
-    same("hd_status", 0, hd_status(state, words, out, 8));
+    same("hd_status", 0, hd_status(state, words, out, HD_STATUS_WORDS));
+    same("broken at", where.broken_at, out[8]), same("last chain", where.last_chain, out[9]);
     return out;
 }
 
@@ -21,13 +22,21 @@ static void set_up_queue(unsigned q, uint64_t start, uint64_t read_only)
     same("hd_memory", 0, hd_memory(state, words, &regions[0].guest, 3 * REGIONS, SLICE));
     same("hd_disk", 0, hd_disk(state, words, disk_start, DISK_SECTORS, read_only, id, 20, BACKED));
     same("hd_enable_at", 0, hd_enable_at(state, words, q, DESC, AVAIL, USED, 2 * q, STAGE, start));
+    where.broken_at = NONE, where.last_chain = 0;
+}
+
+static void follow_where(uint64_t answer)  // S3: a refusal is at the descriptor that it fetched; reason 8 is of a complete chain
+{
+    if (plan.number != 3) return;
+    if (answer == 3) hd_status(state, words, out, HD_STATUS_WORDS), where.broken_at = at_hand.descriptor;
+    if (at_hand.ends && (answer == 1 || out[1] == 8)) where.last_chain = at_hand.count;
 }
 
 static uint64_t traced_step(void)
 {
     plan_step(status());
     const uint64_t answer = call_traced();
-    after_step(answer);
+    after_step(answer), follow_where(answer);
     if (plan.number < STEP_NUMBERS) kinds[plan.number]++;
     disk_writes += did.disk_bytes > 0;
     return answer;

@@ -112,19 +112,36 @@ void scene_turns(struct driver *busy, struct driver *quick)
 
 // ---- drivers that leave the rules
 
-static const struct { const char *name; unsigned idx; uint16_t head; struct descriptor chain[2]; } leaves[] = {
-    {"reason 1: idx too far", 17, 0, {{0}}},
-    {"reason 2: head past the queue", 1, 16, {{0}}},
-    {"reason 2: next past the queue", 1, 0, {{0x10020000, 16, 1, 16}}},
-    {"reason 3: a chain that bites its tail", 1, 0, {{0x10020000, 16, 1, 0}}},
-    {"reason 4: indirect", 1, 0, {{0x10020000, 16, 4, 0}}},
-    {"reason 5: no bytes", 1, 0, {{0x10020000, 0, 1, 1}}},
-    {"reason 6: nowhere", 1, 0, {{0x20000000, 16, 1, 1}}},
-    {"reason 6: over a region's end", 1, 0, {{0x8003ffff8, 16, 1, 1}}},
-    {"reason 6: between two regions", 1, 0, {{0x10020000, 16, 1, 1}, {0x900002000, 1, 2, 0}}},
-    {"reason 7: readable after writable", 1, 0, {{0x10020000, 16, 3, 1}, {0x10020100, 1, 0, 0}}},
-    {"reason 8: no writable buffer", 1, 0, {{0x10020000, 16, 0, 0}}},
+// The first descriptor of a chain is the head's, the second stands where its next says.
+static const struct { const char *name; unsigned idx; uint16_t head; struct descriptor chain[2]; const char *said; } leaves[] = {
+    {"reason 1: idx too far", 17, 0, {{0}}, "reason 1, available idx too far ahead"},
+    {"reason 2: head past the queue", 1, 16, {{0}}, "reason 2, index past the table, in the available ring"},
+    {"reason 2: next past the queue", 1, 9, {{0x10020000, 16, 1, 16}}, "reason 2, index past the table, at descriptor 9, the 1st of its chain"},
+    {"reason 3: a chain that bites its tail", 1, 9, {{0x10020000, 16, 1, 4}, {0x10020000, 16, 1, 9}},
+        "reason 3, chain longer than the queue, at descriptor 9, the 17th of its chain"},
+    {"reason 4: indirect", 1, 9, {{0x10020000, 16, 4, 0}}, "reason 4, flag not negotiated, at descriptor 9, the 1st of its chain"},
+    {"reason 5: no bytes", 1, 9, {{0x10020000, 16, 1, 4}, {0x10020100, 0, 2, 0}}, "reason 5, buffer of length 0, at descriptor 4, the 2nd of its chain"},
+    {"reason 6: nowhere", 1, 9, {{0x20000000, 16, 1, 1}}, "reason 6, buffer not in memory, at descriptor 9, the 1st of its chain"},
+    {"reason 6: over a region's end", 1, 15, {{0x8003ffff8, 16, 1, 1}}, "reason 6, buffer not in memory, at descriptor 15, the 1st of its chain"},
+    {"reason 6: between two regions", 1, 0, {{0x10020000, 16, 1, 11}, {0x900002000, 1, 2, 0}},
+        "reason 6, buffer not in memory, at descriptor 11, the 2nd of its chain"},
+    {"reason 7: readable after writable", 1, 9, {{0x10020000, 16, 3, 4}, {0x10020100, 1, 0, 0}},
+        "reason 7, readable buffer after a writable one, at descriptor 4, the 2nd of its chain"},
+    {"reason 8: no writable buffer", 1, 9, {{0x10020000, 16, 1, 4}, {0x10020100, 1, 0, 0}}, "reason 8, no writable buffer, at descriptor 4, the 2nd of its chain"},
 };
+
+static void lay_wrong(const struct driver *d, uint16_t head, const struct descriptor chain[2])
+{
+    if (head < 16) memory_put(d->at.desc + 16 * head, chain, sizeof *chain);
+    if (head < 16 && chain[0].next < 16 && chain[1].at) memory_put(d->at.desc + 16 * chain[0].next, chain + 1, sizeof *chain);
+    *memory_u16(d->at.avail + 4 + 2 * (d->idx % 16)) = head;
+}
+
+// What the daemon must log of it.
+static void must_say(const struct driver *d, const char *said, unsigned head)
+{
+    printf("must say: %s: queue broken: %s; head %u, taken %u\n", d->path, said, head, d->idx);
+}
 
 void scene_broken(struct driver *d)
 {
@@ -133,8 +150,8 @@ void scene_broken(struct driver *d)
         row = leaves[i].name;
         driver_start(d, 16, (uint16_t)(65530 + i), i);
         driver_run(d, 3);
-        memory_put(d->at.desc, leaves[i].chain, sizeof leaves[i].chain);
-        *memory_u16(d->at.avail + 4 + 2 * (d->idx % 16)) = leaves[i].head;
+        lay_wrong(d, leaves[i].head, leaves[i].chain);
+        must_say(d, leaves[i].said, leaves[i].idx == 1 && leaves[i].head < 16 ? leaves[i].head : 0);
         *memory_u16(d->at.avail + 2) = (uint16_t)(d->idx + leaves[i].idx);
         driver_kick(d);
         if (!heard(d->monitor.err, PATIENCE) || read(d->monitor.err, &n, 8) != 8) fail("no error was told");

@@ -19,14 +19,15 @@ pub enum Step {
     Refused,
 }
 
-/// An enum of codes, each with the sentence that says what it means: in its documentation, and as it is displayed.
+/// An enum of codes, each with the words that say what it means: in its documentation, and as it is displayed. What
+/// stands in brackets is for the documentation alone.
 macro_rules! codes {
-    ($(#[$about:meta])+ $name:ident, $before:literal: $($code:literal $case:ident $text:literal,)+) => {
+    ($(#[$about:meta])+ $name:ident, $before:literal: $($code:literal $case:ident $text:literal $(($more:literal))?,)+) => {
         $(#[$about])+
         #[derive(Clone, Copy, Debug, PartialEq, Eq)]
         #[non_exhaustive]
         pub enum $name {
-            $(#[doc = concat!(stringify!($code), ": ", $text, ".")] $case,)+
+            $(#[doc = concat!(stringify!($code), ": ", $text, $(": ", $more,)? ".")] $case,)+
             /// A code that version 1 doesn't have here: the archive isn't the one that this crate was written for.
             Other(u64),
         }
@@ -36,6 +37,22 @@ macro_rules! codes {
                 match code {
                     $($code => $name::$case,)+
                     other => $name::Other(other),
+                }
+            }
+
+            /// The library's code.
+            pub fn code(&self) -> u64 {
+                match self {
+                    $($name::$case => $code,)+
+                    $name::Other(code) => *code,
+                }
+            }
+
+            /// What it means, in a few words.
+            pub fn words(&self) -> &'static str {
+                match self {
+                    $($name::$case => $text,)+
+                    $name::Other(_) => "unknown code",
                 }
             }
         }
@@ -54,16 +71,17 @@ macro_rules! codes {
 }
 
 codes! {
-    /// Why a queue is broken. For the request that broke it nothing was written to guest memory or disk.
+    /// Why a queue is broken, in the words of `include/hostiledisk_text.h`. For the request that broke it nothing was
+    /// written to guest memory or disk. [`Device::status`](crate::Device::status) says where.
     Reason, "queue broken":
-    1 Idx "available idx is ahead by more entries than the ring has",
-    2 Index "a head, or a descriptor's next, is the queue size or more",
-    3 ChainLong "a chain of more descriptors than the queue has, perhaps one that bites its tail",
-    4 Flags "a descriptor flag other than NEXT and WRITE, perhaps INDIRECT",
-    5 Empty "a buffer of length 0",
-    6 Memory "a buffer that isn't wholly inside one region of guest memory",
-    7 ReadableLate "a readable buffer after a writable one",
-    8 NoStatus "no writable buffer, so no place for a status",
+    1 Idx "available idx too far ahead" ("by more entries than the ring has"),
+    2 Index "index past the table" ("a head, or a descriptor's next, is the queue size or more"),
+    3 ChainLong "chain longer than the queue" ("perhaps one that bites its tail"),
+    4 Flags "flag not negotiated" ("other than NEXT and WRITE, perhaps INDIRECT"),
+    5 Empty "buffer of length 0",
+    6 Memory "buffer not in memory" ("not wholly inside one region"),
+    7 ReadableLate "readable buffer after a writable one",
+    8 NoStatus "no writable buffer" ("no place for a status"),
 }
 
 codes! {

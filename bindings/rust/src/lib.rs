@@ -20,7 +20,7 @@
 //!         Step::Idle => break,     // wait for the guest's notification
 //!         Step::WentOn => {}
 //!         Step::Answered => {}     // notify the guest
-//!         Step::Broken(reason) => return Err(reason.into()), // until device.reset()
+//!         Step::Broken(_) => return Err(device.status().to_string().into()), // why and where; until device.reset()
 //!         Step::Refused => return Err("a slice is shorter than set-up was told".into()),
 //!     }
 //! }

@@ -1,11 +1,15 @@
 //! What a queue is at.
 
 use crate::Reason;
+use std::fmt;
 
 /// The words of a status.
-pub(crate) const WORDS: usize = 8;
+pub(crate) const WORDS: usize = 10;
 
 /// What a device's queue is at. Without an enabled queue this is [`Status::default`]: nothing, and zeros.
+///
+/// Displayed it is a line for a log, such as "queue broken: reason 6, buffer not in memory, at descriptor 17, the 3rd of
+/// its chain", or "queue in order".
 #[derive(Clone, Copy, Debug, Default, PartialEq, Eq)]
 pub struct Status {
     /// Whether a queue is enabled; a broken one is.
@@ -25,11 +29,17 @@ pub struct Status {
     pub descriptors: u64,
     /// Header and payload bytes fetched for that request.
     pub bytes: u64,
+    /// The number, in its table, of the descriptor at which the chain was refused: for a bad next the descriptor that has
+    /// it, for no writable buffer the chain's last one. `None` if the queue is in order, or broke at idx or at a head.
+    pub broken_at: Option<u16>,
+    /// How many descriptors the last chain had that was complete; 0 before the first. One without a writable buffer is
+    /// complete too; a chain that is refused for another reason leaves the number as it was.
+    pub last_chain: u64,
 }
 
 impl Status {
     pub(crate) fn of(words: &[u64; WORDS]) -> Status {
-        let [enabled, reason, taken, answered, next, head, descriptors, bytes] = *words;
+        let [enabled, reason, taken, answered, next, head, descriptors, bytes, broken_at, last_chain] = *words;
         Status {
             enabled: enabled != 0,
             broken: if reason == 0 { None } else { Some(Reason::of(reason)) },
@@ -39,7 +49,38 @@ impl Status {
             head,
             descriptors,
             bytes,
+            broken_at: if reason == 0 { None } else { u16::try_from(broken_at).ok() }, // 65,536: at no descriptor
+            last_chain,
         }
+    }
+}
+
+impl fmt::Display for Status {
+    fn fmt(&self, f: &mut fmt::Formatter<'_>) -> fmt::Result {
+        let reason = match self.broken {
+            None if self.enabled => return f.write_str("queue in order"),
+            None => return f.write_str("queue not enabled"),
+            Some(reason) => reason,
+        };
+        write!(f, "queue broken: reason {}, {}", reason.code(), reason.words())?;
+        match self.broken_at {
+            Some(at) => {
+                write!(f, ", at descriptor {at}, the {}{} of its chain", self.descriptors, ending(self.descriptors))
+            }
+            None if reason == Reason::Index => f.write_str(", in the available ring"),
+            None => Ok(()),
+        }
+    }
+}
+
+/// The ending of an ordinal: 1st, 2nd, 3rd, 4th, 11th, 12th, 13th, 21st, 111th.
+fn ending(n: u64) -> &'static str {
+    match (n / 10 % 10, n % 10) {
+        (1, _) => "th",
+        (_, 1) => "st",
+        (_, 2) => "nd",
+        (_, 3) => "rd",
+        _ => "th",
     }
 }
 

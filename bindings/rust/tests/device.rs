@@ -78,8 +78,9 @@ fn v1_step_by_step() {
     assert_eq!(bench.mem[0x5000..0x5200], bench.backing[START + 3 * 512..START + 4 * 512]);
     assert_eq!(bench.mem[0x3000..0x300c], [0, 0, 1, 0, 0, 0, 0, 0, 1, 2, 0, 0]);
     assert_eq!(bench.step(), Step::Idle);
-    let want = Status { enabled: true, taken: 1, answered: 1, next: Some(Poll), ..Status::default() };
+    let want = Status { enabled: true, taken: 1, answered: 1, next: Some(Poll), last_chain: 3, ..Status::default() };
     assert_eq!(bench.device.status(), want);
+    assert_eq!(want.to_string(), "queue in order");
 }
 
 #[test]
@@ -88,11 +89,12 @@ fn status_of_a_write() {
     bench.put(0x4000, &[1]);
     bench.describe(1, 0x5000, 512, 1, 2);
     bench.put(0x5000, &[0x77; 512]);
-    for _ in 0..6 {
+    for n in 0..6 {
+        assert_eq!(bench.device.status().last_chain, if n < 5 { 0 } else { 3 });
         assert_eq!(bench.step(), Step::WentOn);
     }
-    let at_payload =
-        Status { enabled: true, next: Some(NextStep::Payload), descriptors: 3, bytes: 16, ..Status::default() };
+    let next = Some(NextStep::Payload);
+    let at_payload = Status { enabled: true, next, descriptors: 3, bytes: 16, last_chain: 3, ..Status::default() };
     assert_eq!(bench.device.status(), at_payload);
     assert_eq!(bench.run(), Step::Answered);
     assert_eq!(bench.backing[START + 3 * 512..START + 4 * 512], [0x77; 512]);
@@ -125,30 +127,83 @@ fn identity_as_text() {
 #[test]
 fn every_reason() {
     type Deed = fn(&mut Bench);
-    let rows: [(Reason, Deed); 8] = [
-        (Reason::Idx, |b| b.put(0x2002, &[9])),
-        (Reason::Index, |b| b.put(0x2004, &[8])),
-        (Reason::ChainLong, |b| b.describe(0, 0x4000, 16, 1, 0)),
-        (Reason::Flags, |b| b.describe(0, 0x4000, 16, 5, 1)),
-        (Reason::Empty, |b| b.describe(1, 0x5000, 0, 3, 2)),
-        (Reason::Memory, |b| b.describe(1, 0xfe01, 512, 3, 2)),
-        (Reason::ReadableLate, |b| b.describe(2, 0x6000, 1, 0, 0)),
-        (Reason::NoStatus, |b| b.describe(0, 0x4000, 16, 0, 0)),
+    // the reason, at which descriptor, as which of its chain, and how long the last chain was then
+    let rows: [(Reason, Option<u16>, u64, u64, Deed); 11] = [
+        (Reason::Idx, None, 0, 0, |b| b.put(0x2002, &[9])),
+        (Reason::Index, None, 0, 0, |b| b.put(0x2004, &[8])),
+        (Reason::Index, Some(1), 2, 0, |b| b.describe(1, 0x5000, 512, 3, 8)),
+        (Reason::ChainLong, Some(0), 9, 0, |b| b.describe(0, 0x4000, 16, 1, 0)),
+        (Reason::Flags, Some(0), 1, 0, |b| b.describe(0, 0x4000, 16, 5, 1)),
+        (Reason::Empty, Some(1), 2, 0, |b| b.describe(1, 0x5000, 0, 3, 2)),
+        (Reason::Memory, Some(1), 2, 0, |b| b.describe(1, 0xfe01, 512, 3, 2)),
+        (Reason::ReadableLate, Some(2), 3, 0, |b| b.describe(2, 0x6000, 1, 0, 0)),
+        (Reason::NoStatus, Some(0), 1, 1, |b| b.describe(0, 0x4000, 16, 0, 0)),
+        (Reason::Memory, Some(7), 2, 0, |b| {
+            b.describe(0, 0x4000, 16, 1, 7);
+            b.describe(7, 0xffff, 2, 2, 0);
+        }),
+        (Reason::NoStatus, Some(7), 2, 2, |b| {
+            b.describe(0, 0x4000, 16, 1, 7);
+            b.describe(7, 0x5000, 512, 0, 0);
+        }),
     ];
-    for (reason, spoil) in rows {
+    for (reason, broken_at, descriptors, last_chain, spoil) in rows {
         let mut bench = Bench::enabled();
         spoil(&mut bench);
         let (mem, backing) = (bench.mem.clone(), bench.backing.clone());
         assert_eq!(bench.run(), Step::Broken(reason));
-        assert_eq!(bench.device.status().broken, Some(reason));
+        let want =
+            Status { enabled: true, broken: Some(reason), broken_at, descriptors, last_chain, ..Status::default() };
+        assert_eq!(bench.device.status(), want);
         assert_eq!(bench.device.step(&mut [], &mut []), Step::Broken(reason)); // nothing is touched any more
         assert!(mem == bench.mem && backing == bench.backing);
         assert_eq!(bench.device.enable(&QUEUE), Err(EnableError::Order));
         bench.device.reset();
         assert_eq!((bench.device.status(), bench.step()), (Status::default(), Step::Refused));
         assert_eq!(bench.device.enable(&QUEUE), Ok(()));
-        assert_eq!(bench.device.status().broken, None);
+        let anew = Status { enabled: true, next: Some(NextStep::Poll), ..Status::default() };
+        assert_eq!(bench.device.status(), anew);
     }
+}
+
+#[test]
+fn a_break_in_words() {
+    let rows: [(Option<u16>, u64, Reason, &str); 6] = [
+        (Some(17), 3, Reason::Memory, "reason 6, buffer not in memory, at descriptor 17, the 3rd of its chain"),
+        (Some(0), 1, Reason::Empty, "reason 5, buffer of length 0, at descriptor 0, the 1st of its chain"),
+        (None, 0, Reason::Idx, "reason 1, available idx too far ahead"),
+        (None, 0, Reason::Index, "reason 2, index past the table, in the available ring"),
+        (Some(255), 2, Reason::Index, "reason 2, index past the table, at descriptor 255, the 2nd of its chain"),
+        (None, 0, Reason::Other(9), "reason 9, unknown code"),
+    ];
+    for (broken_at, descriptors, reason, words) in rows {
+        let status = Status { enabled: true, broken: Some(reason), broken_at, descriptors, ..Status::default() };
+        assert_eq!(status.to_string(), format!("queue broken: {words}"));
+    }
+    let ordinals =
+        "1st 2nd 3rd 4th 10th 11th 12th 13th 14th 20th 21st 22nd 23rd 101st 111th 112th 113th 121st 212th 257th";
+    for ordinal in ordinals.split(' ') {
+        let descriptors = ordinal[..ordinal.len() - 2].parse().unwrap();
+        let broken = Some(Reason::ChainLong);
+        let status = Status { enabled: true, broken, broken_at: Some(4), descriptors, ..Status::default() };
+        assert!(status.to_string().ends_with(&format!("at descriptor 4, the {ordinal} of its chain")), "{status}");
+    }
+    assert_eq!(Status::default().to_string(), "queue not enabled");
+}
+
+/// The words of the C header, which are the ones that hosts in C log.
+#[test]
+fn reasons_in_the_words_of_the_header() {
+    use Reason::*;
+    let header = include_str!("../../../include/hostiledisk_text.h");
+    let said: Vec<&str> = header
+        .lines()
+        .filter(|line| line.contains("case HD_REASON_"))
+        .map(|line| line.split('"').nth(1).unwrap())
+        .collect();
+    let reasons = [Idx, Index, ChainLong, Flags, Empty, Memory, ReadableLate, NoStatus];
+    assert_eq!(said[1..], reasons.map(|reason| reason.words()));
+    assert_eq!(reasons.map(|reason| reason.code()), [1, 2, 3, 4, 5, 6, 7, 8]);
 }
 
 #[test]
@@ -252,7 +307,7 @@ fn a_device_moves_to_another_thread() {
 fn errors_speak() {
     let said: Box<dyn std::error::Error> = EnableError::Size.into();
     assert_eq!(said.to_string(), "queue refused: the size is not a power of two from 1 to 256 (25)");
-    assert_eq!(Reason::Empty.to_string(), "queue broken: a buffer of length 0 (5)");
+    assert_eq!(Reason::Empty.to_string(), "queue broken: buffer of length 0 (5)");
     assert_eq!(MemoryError::Other(99).to_string(), "memory refused: unknown code 99");
     let shown = format!("{:?}", Device::new());
     assert!(shown.starts_with("Device { status: Status { enabled: false") && shown.len() < 300, "{shown}");

@@ -6,11 +6,12 @@ ghost use lib.ListN.{length};
 ghost use lib.Dec.{leb, ltb, eqb};
 ghost use Rattle.model.specs.Pick.{both};
 ghost use Rattle.model.specs.Memory.{regions, sound};
-ghost use Rattle.model.specs.Chain.{descAt, testedBy, tested, tally, held, complete, described, keeps};
+ghost use Rattle.model.specs.Chain.{descAt, testedBy, tested, tally, held, complete, described, descsAfter, keeps};
 ghost use Rattle.chain.specs.Bounds.{DescOk};
 use model::Desc;
 use model::Found;
 use model::Job;
+use model::Linked;
 use model::Phase;
 use model::Place;
 use model::Tested;
@@ -111,11 +112,12 @@ pub fn hold(chain: &mut [usize], n: usize, place: usize, len: usize)
     chain[2 * n + 1] = len;
 }
 
-pub fn complete(k: Walk) -> Phase
-    ensures { λ r. ⌜ r ≡ complete k ⌝ }
+// The chain ends with descriptor `cur` of the table.
+pub fn complete(k: Walk, cur: usize) -> Phase
+    ensures { λ r. ⌜ r ≡ complete k cur ⌝ }
 {
     if k.count <= k.reads {
-        return Phase::Broken(8, k.head, k.count);
+        return Phase::Broken(8, k.head, k.count, cur);
     }
     if k.r < 16 {
         return Phase::Answer(k, Job::Failed, 0);
@@ -123,8 +125,18 @@ pub fn complete(k: Walk) -> Phase
     Phase::Header(k, Place { buf: 0, skip: 0 }, 0)
 }
 
-// S3, decided: the descriptor has been fetched.
-pub fn described(map: &[usize], m: usize, q: usize, k: Walk, d: Desc, chain: &mut [usize]) -> Phase
+// S3, decided: descriptor `cur` of the table has been fetched. It also answers where the chain was refused and how many
+// descriptors were fetched, or how many a complete chain has; `n` is what the last one had (DEV-12).
+pub fn described(
+    map: &[usize],
+    m: usize,
+    q: usize,
+    k: Walk,
+    cur: usize,
+    d: Desc,
+    n: usize,
+    chain: &mut [usize],
+) -> Linked
     requires { ⌜ sound m (regions (now map)) ≡ true ⌝ }
     requires { ⌜ q ≤ 256 ⌝ }
     requires { ⌜ 2 * q ≤ length (now chain) ⌝ }
@@ -133,20 +145,30 @@ pub fn described(map: &[usize], m: usize, q: usize, k: Walk, d: Desc, chain: &mu
     requires { ⌜ k .r < 2 ^ 62 ⌝ }
     requires { ⌜ k .w < 2 ^ 62 ⌝ }
     requires { ⌜ d .len < 2 ^ 32 ⌝ }
-    ensures { λ r. ⌜ r ≡ described k d (tested (regions (now (map .entry))) q k d) ⌝ }
+    ensures { λ r. ⌜ r .phase ≡ described k cur d (tested (regions (now (map .entry))) q k d) ⌝ }
+    ensures { λ r. ⌜ r .descs ≡ descsAfter n k (tested (regions (now (map .entry))) q k d) ⌝ }
     ensures { λ _. ⌜ now (chain .exit) ≡ keeps (now (chain .entry)) k d (tested (regions (now (map .entry))) q k d) ⌝ }
 {
     let found = regions::locate(map, m, d.addr, d.len);
     let t = judge(q, k.count, k.reads, d.len, d.flags, d.next, found);
     match t {
-        Tested::Bad(n) => Phase::Broken(n, k.head, k.count + 1),
+        Tested::Bad(reason) => Linked {
+            phase: Phase::Broken(reason, k.head, k.count + 1, cur),
+            descs: n,
+        },
         Tested::Next(x) => {
             hold(chain, k.count, x, d.len);
-            Phase::Chain(tally(k, d.flags, d.len), d.next)
+            Linked {
+                phase: Phase::Chain(tally(k, d.flags, d.len), d.next),
+                descs: n,
+            }
         }
         Tested::Last(x) => {
             hold(chain, k.count, x, d.len);
-            complete(tally(k, d.flags, d.len))
+            Linked {
+                phase: complete(tally(k, d.flags, d.len), cur),
+                descs: k.count + 1,
+            }
         }
     }
 }

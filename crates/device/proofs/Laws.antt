@@ -12,8 +12,8 @@ use borrow.Author.Tests.{leb-true, le-leb}
 use Rattle.model.specs.Pick.{pick}
 use Rattle.model.specs.Bytes.{put, part, word, bytes}
 use Rattle.model.specs.Ring.{polled, headed, oneMore}
-use Rattle.model.specs.Chain.{descAt, tested, described, keeps}
-use Rattle.model.specs.Step.{Cfg, State, Span, Out, Effect, nothing, stores, Store, apply, shifted, spans, writables, left, lacks, ends, gathered, paid, want, next, chained, staged, effect, answerStores, memStores, diskStores, diskOf, counted, codeAfter, codeOf, fetched, stepWith, step}
+use Rattle.model.specs.Chain.{descAt, tested, described, descsAfter, keeps}
+use Rattle.model.specs.Step.{Cfg, State, Span, Out, Effect, nothing, stores, Store, apply, shifted, spans, writables, left, lacks, ends, gathered, paid, want, next, chained, measured, staged, effect, answerStores, memStores, diskStores, diskOf, counted, codeAfter, codeOf, fetched, stepWith, step}
 use Rattle.model.specs.Sane.{sane, ready, inside, allInside, placeOk}
 use Rattle.model.proofs.Tests.{picked, both-split}
 use Rattle.model.proofs.Words.{word-part}
@@ -40,15 +40,16 @@ desc-all k m =
     rw (word-part 8 0 k 16 m (omega arith), word-part 4 8 k 16 m (omega arith), word-part 2 12 k 16 m (omega arith), word-part 2 14 k 16 m (omega arith), add-zero k)
 
 -- a step without an effect: the counters stay, and the answer goes by the phase
-pub met-quiet : (c : Cfg) (t a : ℕ) (p : Phase) (mem backing chain stage : List ℕ) (q : Phase)
-    → effect chain stage p (fetched c (stateOf t a p) chain mem) ≡ nothing
-    → q ≡ next c t chain stage p (fetched c (stateOf t a p) chain mem)
-    → (chain₂ stage₂ : List ℕ) → chain₂ ≡ chained c chain p (fetched c (stateOf t a p) chain mem)
-    → stage₂ ≡ staged chain stage p (fetched c (stateOf t a p) chain mem)
-    → Met (step c (stateOf t a p) mem backing chain stage) t a q (codeAfter q) mem backing chain₂ stage₂
+pub met-quiet : (c : Cfg) (t a l : ℕ) (p : Phase) (mem backing chain stage : List ℕ) (q : Phase)
+    → effect chain stage p (fetched c (stateOf t a l p) chain mem) ≡ nothing
+    → q ≡ next c t chain stage p (fetched c (stateOf t a l p) chain mem)
+    → (l₂ : ℕ) (chain₂ stage₂ : List ℕ) → l₂ ≡ measured c l p (fetched c (stateOf t a l p) chain mem)
+    → chain₂ ≡ chained c chain p (fetched c (stateOf t a l p) chain mem)
+    → stage₂ ≡ staged chain stage p (fetched c (stateOf t a l p) chain mem)
+    → Met (step c (stateOf t a l p) mem backing chain stage) t a l₂ q (codeAfter q) mem backing chain₂ stage₂
 unfolding step stepWith memStores diskStores counted codeOf apply shifted
-met-quiet c t a p mem backing chain stage q e n chain₂ stage₂ x y =
-    record { taken-is = rw e; answered-is = rw e; phase-is = n; code-is = rw (e, ← n); mem-is = rw e; backing-is = rw e; chain-is = x; stage-is = y }
+met-quiet c t a l p mem backing chain stage q e n l₂ chain₂ stage₂ d x y =
+    record { taken-is = rw e; answered-is = rw e; descs-is = d; phase-is = n; code-is = rw (e, ← n); mem-is = rw e; backing-is = rw e; chain-is = x; stage-is = y }
 
 -- S5's effect, by whether the payload ends there
 paid-counted : (b : Bool) (at : ℕ) (bs : List ℕ) (n : ℕ) → counted (pick b (stores at bs) nothing) n ≡ n
@@ -72,19 +73,20 @@ unfolding diskStores shifted
 paid-back true at bs d backing = refl
 paid-back false at bs d backing = refl
 
-pub met-paid : (c : Cfg) (t a : ℕ) (mem backing chain stage : List ℕ) (k : Walk) (p : Place) (sector got : ℕ) (q : Phase) (stage₂ backing₂ : List ℕ)
+pub met-paid : (c : Cfg) (t a l : ℕ) (mem backing chain stage : List ℕ) (k : Walk) (p : Place) (sector got : ℕ) (q : Phase) (stage₂ backing₂ : List ℕ)
     → q ≡ paid k p sector got (left chain p .len)
     → stage₂ ≡ pick (ends k got (left chain p .len)) stage (put stage got (part (left chain p .at) (left chain p .len) mem))
     → backing₂
     ≡ pick (ends k got (left chain p .len)) (put backing (c .disk .start + 512 * sector) (part 0 got stage ++ part (left chain p .at) (left chain p .len) mem)) backing
-    → Met (step c (stateOf t a (Payload k p sector got)) mem backing chain stage) t a q (codeAfter q) mem backing₂ chain stage₂
-unfolding step stepWith want next chained staged effect
-met-paid c t a mem backing chain stage k p sector got q stage₂ backing₂ n x y =
+    → Met (step c (stateOf t a l (Payload k p sector got)) mem backing chain stage) t a l q (codeAfter q) mem backing₂ chain stage₂
+unfolding step stepWith want next chained measured staged effect
+met-paid c t a l mem backing chain stage k p sector got q stage₂ backing₂ n x y =
     let b = ends k got (left chain p .len) in
     let bs = part 0 got stage ++ part (left chain p .at) (left chain p .len) mem in
     record {
       taken-is = sym (paid-counted b (512 * sector) bs t);
       answered-is = sym (paid-counted b (512 * sector) bs a);
+      descs-is = refl;
       phase-is = n;
       code-is = rw (paid-code b (512 * sector) bs (paid k p sector got (left chain p .len)), ← n);
       mem-is = sym (paid-mem b (512 * sector) bs c a chain (diskOf (c .disk) backing) mem);
@@ -102,47 +104,48 @@ inside-more m n h (s ∷ ss) e =
     rw (le-leb (s .at + s .len) n (omega (arith, leb-true (s .at + s .len) m (a .0)))) (inside-more m n h ss (a .1))
 
 -- S1 to S7, one law each
-module _ (c : Cfg) (t a : ℕ) (mem backing chain stage : List ℕ) where
+module _ (c : Cfg) (t a l : ℕ) (mem backing chain stage : List ℕ) where
   pub met-poll : (q : Phase) → q ≡ polled (c .queue .size) t (word 2 (c .queue .avail + 2) mem)
-      → Met (step c (stateOf t a Poll) mem backing chain stage) t a q (codeAfter q) mem backing chain stage
-  unfolding want next chained staged effect
-  met-poll q n = met-quiet c t a Poll mem backing chain stage q refl (rw (word-all 2 (c .queue .avail + 2) mem) n) chain stage refl refl
+      → Met (step c (stateOf t a l Poll) mem backing chain stage) t a l q (codeAfter q) mem backing chain stage
+  unfolding want next chained measured staged effect
+  met-poll q n = met-quiet c t a l Poll mem backing chain stage q refl (rw (word-all 2 (c .queue .avail + 2) mem) n) l chain stage refl refl refl
 
   pub met-entry : (q : Phase) → q ≡ headed (c .queue .size) (word 2 (c .queue .avail + (4 + 2 * (t % c .queue .size))) mem)
-      → Met (step c (stateOf t a Entry) mem backing chain stage) t a q (codeAfter q) mem backing chain stage
-  unfolding want next chained staged effect
+      → Met (step c (stateOf t a l Entry) mem backing chain stage) t a l q (codeAfter q) mem backing chain stage
+  unfolding want next chained measured staged effect
   met-entry q n =
-      met-quiet c t a Entry mem backing chain stage q refl (rw (word-all 2 (c .queue .avail + (4 + 2 * (t % c .queue .size))) mem) n) chain stage refl refl
+      met-quiet c t a l Entry mem backing chain stage q refl (rw (word-all 2 (c .queue .avail + (4 + 2 * (t % c .queue .size))) mem) n) l chain stage refl refl refl
 
-  pub met-chain : (k : Walk) (cur : ℕ) (q : Phase) (chain₂ : List ℕ)
-      → q ≡ described k (descAt (c .queue .desc + 16 * cur) mem) (tested (c .map) (c .queue .size) k (descAt (c .queue .desc + 16 * cur) mem))
+  pub met-chain : (k : Walk) (cur : ℕ) (q : Phase) (l₂ : ℕ) (chain₂ : List ℕ)
+      → q ≡ described k cur (descAt (c .queue .desc + 16 * cur) mem) (tested (c .map) (c .queue .size) k (descAt (c .queue .desc + 16 * cur) mem))
+      → l₂ ≡ descsAfter l k (tested (c .map) (c .queue .size) k (descAt (c .queue .desc + 16 * cur) mem))
       → chain₂ ≡ keeps chain k (descAt (c .queue .desc + 16 * cur) mem) (tested (c .map) (c .queue .size) k (descAt (c .queue .desc + 16 * cur) mem))
-      → Met (step c (stateOf t a (Chain k cur)) mem backing chain stage) t a q (codeAfter q) mem backing chain₂ stage
-  unfolding want next chained staged effect
-  met-chain k cur q chain₂ n x =
+      → Met (step c (stateOf t a l (Chain k cur)) mem backing chain stage) t a l₂ q (codeAfter q) mem backing chain₂ stage
+  unfolding want next chained measured staged effect
+  met-chain k cur q l₂ chain₂ n d x =
       let e = desc-all (c .queue .desc + 16 * cur) mem in
-      met-quiet c t a (Chain k cur) mem backing chain stage q refl (rw e n) chain₂ stage (rw e x) refl
+      met-quiet c t a l (Chain k cur) mem backing chain stage q refl (rw e n) l₂ chain₂ stage (rw e d) (rw e x) refl
 
   pub met-header : (k : Walk) (p : Place) (got : ℕ) (q : Phase) (stage₂ : List ℕ)
       → stage₂ ≡ put stage got (part (left chain p .at) (lacks got (left chain p .len)) mem)
       → q ≡ gathered (c .disk) k p got (left chain p .len) (lacks got (left chain p .len)) (word 4 0 stage₂) (word 8 8 stage₂)
-      → Met (step c (stateOf t a (Header k p got)) mem backing chain stage) t a q (codeAfter q) mem backing chain stage₂
-  unfolding want next chained staged effect
-  met-header k p got q stage₂ x n = met-quiet c t a (Header k p got) mem backing chain stage q refl (rw (← x) n) chain stage₂ refl x
+      → Met (step c (stateOf t a l (Header k p got)) mem backing chain stage) t a l q (codeAfter q) mem backing chain stage₂
+  unfolding want next chained measured staged effect
+  met-header k p got q stage₂ x n = met-quiet c t a l (Header k p got) mem backing chain stage q refl (rw (← x) n) l chain stage₂ refl refl x
 
   pub met-answer : (k : Walk) (job : Job) (got : ℕ) (mem₂ : List ℕ)
       → mem₂ ≡ apply (answerStores (c .id) (c .queue) a chain (diskOf (c .disk) backing) k job) mem
-      → Met (step c (stateOf t a (Answer k job got)) mem backing chain stage) t a (Publish k got) 1 mem₂ backing chain stage
-  unfolding step stepWith want next chained staged effect memStores diskStores counted codeOf codeAfter shifted
+      → Met (step c (stateOf t a l (Answer k job got)) mem backing chain stage) t a l (Publish k got) 1 mem₂ backing chain stage
+  unfolding step stepWith want next chained measured staged effect memStores diskStores counted codeOf codeAfter shifted
   met-answer k job got mem₂ x =
-      record { taken-is = refl; answered-is = refl; phase-is = refl; code-is = refl; mem-is = x; backing-is = refl; chain-is = refl; stage-is = refl }
+      record { taken-is = refl; answered-is = refl; descs-is = refl; phase-is = refl; code-is = refl; mem-is = x; backing-is = refl; chain-is = refl; stage-is = refl }
 
   pub met-publish : (k : Walk) (got x y : ℕ) (mem₂ : List ℕ) → x ≡ oneMore t → y ≡ oneMore a
       → mem₂ ≡ put mem (c .queue .used + 2) (bytes 2 (oneMore a))
-      → Met (step c (stateOf t a (Publish k got)) mem backing chain stage) x y Poll 2 mem₂ backing chain stage
-  unfolding step stepWith want next chained staged effect memStores diskStores counted codeOf apply shifted
+      → Met (step c (stateOf t a l (Publish k got)) mem backing chain stage) x y l Poll 2 mem₂ backing chain stage
+  unfolding step stepWith want next chained measured staged effect memStores diskStores counted codeOf apply shifted
   met-publish k got x y mem₂ p q e =
-      record { taken-is = p; answered-is = q; phase-is = refl; code-is = refl; mem-is = e; backing-is = refl; chain-is = refl; stage-is = refl }
+      record { taken-is = p; answered-is = q; descs-is = refl; phase-is = refl; code-is = refl; mem-is = e; backing-is = refl; chain-is = refl; stage-is = refl }
 
 -- what S4, S5 and S6 stand on, from what every step stands on
 module _ (c : Config) (t a : ℕ) (map : List ℕ) (mem backing : ℕ) (chain : List ℕ) (stage : ℕ) where

@@ -15,8 +15,8 @@ use Rattle.device.specs.declared.Config.{Config}
 abbrev pub cfgOf : Config → List ℕ → Cfg
 cfgOf c words = record { map = regions words; disk = c .disk; id = idBytes (c .id0) (c .id1) (c .id2); queue = c .queue }
 
-abbrev pub stateOf : ℕ → ℕ → Phase → State
-stateOf taken answered p = record { taken = taken; answered = answered; phase = p }
+abbrev pub stateOf : ℕ → ℕ → ℕ → Phase → State
+stateOf taken answered descs p = record { taken = taken; answered = answered; descs = descs; phase = p }
 
 -- what a step stands on: what set-up has fixed, slices as long as it was told, and a state that passed its tests
 pub record Fit (c : Config) (taken answered : ℕ) (p : Phase) (map : List ℕ) (mem backing : ℕ) (chain : List ℕ) (stage : ℕ) : Type 0 where
@@ -35,10 +35,11 @@ pub record Fit (c : Config) (taken answered : ℕ) (p : Phase) (map : List ℕ) 
   pub sane-phase : sane (c .queue .size) (c .disk .sectors) p ≡ true
   pub ready-phase : ready (c .m) chain p ≡ true
 
--- everything that a step leaves is the model's: the counters, the next phase, the answer, and the slices
-pub record Met (o : Out) (taken answered : ℕ) (p : Phase) (code : ℕ) (mem backing chain stage : List ℕ) : Type 0 where
+-- everything that a step leaves is the model's: the counters, the last complete chain's descriptors, the next phase, the answer, and the slices
+pub record Met (o : Out) (taken answered descs : ℕ) (p : Phase) (code : ℕ) (mem backing chain stage : List ℕ) : Type 0 where
   pub taken-is : taken ≡ o .state .taken
   pub answered-is : answered ≡ o .state .answered
+  pub descs-is : descs ≡ o .state .descs
   pub phase-is : p ≡ o .state .phase
   pub code-is : code ≡ o .code
   pub mem-is : mem ≡ o .mem

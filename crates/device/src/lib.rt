@@ -7,9 +7,10 @@ ghost use lib.ListN.{length};
 ghost use Rattle.model.specs.Bytes.{put, word, bytes};
 ghost use Rattle.model.specs.Memory.{regions, sound};
 ghost use Rattle.model.specs.Ring.{polled, headed, oneMore};
-ghost use Rattle.model.specs.Chain.{descAt, tested, described, keeps};
+ghost use Rattle.model.specs.Chain.{descAt, tested, described, descsAfter, keeps};
 ghost use Rattle.model.specs.Step.{codeAfter};
 use model::Disk;
+use model::Linked;
 use model::Phase;
 use model::Queue;
 use model::Walk;
@@ -46,16 +47,17 @@ pub fn entry(queue: Queue, taken: usize, mem: &[u8]) -> Phase
     ring::headed(queue.size, head)
 }
 
-// S3: one descriptor.
+// S3: one descriptor. `n` is the number of descriptors of the last complete chain (DEV-12).
 pub fn descriptor(
     queue: Queue,
     map: &[usize],
     m: usize,
     k: Walk,
     cur: usize,
+    n: usize,
     mem: &[u8],
     chain: &mut [usize],
-) -> Phase
+) -> Linked
     requires { ⌜ sound m (regions (now map)) ≡ true ⌝ }
     requires { ⌜ queue .size ≤ 256 ⌝ }
     requires { ⌜ queue .desc + 16 * queue .size ≤ length (now mem) ⌝ }
@@ -65,11 +67,12 @@ pub fn descriptor(
     requires { ⌜ k .reads ≤ k .count ⌝ }
     requires { ⌜ k .r ≤ 4294967295 * k .reads ⌝ }
     requires { ⌜ k .w ≤ 4294967295 * k .count ⌝ }
-    ensures { λ r. ⌜ r ≡ described k (descAt (queue .desc + 16 * cur) (now (mem .entry))) (tested (regions (now (map .entry))) (queue .size) k (descAt (queue .desc + 16 * cur) (now (mem .entry)))) ⌝ }
+    ensures { λ r. ⌜ r .phase ≡ described k cur (descAt (queue .desc + 16 * cur) (now (mem .entry))) (tested (regions (now (map .entry))) (queue .size) k (descAt (queue .desc + 16 * cur) (now (mem .entry)))) ⌝ }
+    ensures { λ r. ⌜ r .descs ≡ descsAfter n k (tested (regions (now (map .entry))) (queue .size) k (descAt (queue .desc + 16 * cur) (now (mem .entry)))) ⌝ }
     ensures { λ _. ⌜ now (chain .exit) ≡ keeps (now (chain .entry)) k (descAt (queue .desc + 16 * cur) (now (mem .entry))) (tested (regions (now (map .entry))) (queue .size) k (descAt (queue .desc + 16 * cur) (now (mem .entry)))) ⌝ }
 {
     let d = chain::fetch(mem, queue.desc + 16 * cur);
-    chain::described(map, m, queue.size, k, d, chain)
+    chain::described(map, m, queue.size, k, cur, d, n, chain)
 }
 
 // S7: idx of the used ring, alone.
@@ -92,6 +95,6 @@ pub fn code_after(p: Phase) -> usize
         Phase::Payload(_, _, _, _) => 1,
         Phase::Answer(_, _, _) => 1,
         Phase::Publish(_, _) => 1,
-        Phase::Broken(_, _, _) => 3,
+        Phase::Broken(_, _, _, _) => 3,
     }
 }

@@ -13,12 +13,13 @@ use Rattle.model.specs.Bytes.{put, word}
 use Rattle.model.specs.Ring.{polled, headed, pending, areas}
 use Rattle.model.specs.Chain.{descAt, tested, tally, complete, described}
 use Rattle.model.specs.Request.{verdict, decided, diskCode}
-use Rattle.model.specs.Step.{Cfg, left, lacks, ends, onward, gathered, paid, next, effect, codeOf, codeAfter, counted, fetched, step, stepWith}
+use Rattle.model.specs.Step.{Cfg, left, lacks, ends, onward, gathered, paid, next, effect, codeOf, codeAfter, counted, fetched, measured, step, stepWith}
 use Rattle.words.specs.Layout.{stateWords, rowAt, phaseOf, configAt, mapWords, saved, level}
 use Rattle.words.proofs.Saved.{phase-saved, length-saved}
 use Rattle.device.specs.Turn.{cfgOf, stateOf}
 use Rattle.hostiledisk.specs.Calls.{Set, Called, stepped, steppedOn, Going, hdMemory, hdDisk, diskSet, queueSet, enabledWith, hdEnableAt, hdReset}
 use Rattle.model.proofs.Tests.{on, both-r}
+use Rattle.model.proofs.Chain.{tally-same}
 use Rattle.model.proofs.Lists.{put-in}
 use Rattle.model.specs.Memory.{regions, memoryCode}
 use Rattle.model.specs.declared.Areas.{Areas}
@@ -50,24 +51,19 @@ keep-poll q t idx =
     on (λ (p : Phase). held p ≡ []) (eqb (pending idx t) 0) (λ e. refl) (λ e. on (λ (p : Phase). held p ≡ []) (ltb q (pending idx t)) (λ f. refl) (λ f. refl))
 
 -- a chain that goes on keeps its head, and has a descriptor
-tally-same : (k : Walk) (flags len : ℕ) → (tally k flags len .head ≡ k .head) × (tally k flags len .count ≡ k .count + 1)
-unfolding tally
-tally-same k flags len =
-    on (λ (x : Walk). (x .head ≡ k .head) × (x .count ≡ k .count + 1)) (ltb flags 2) (λ e. (refl, refl)) (λ e. (refl, refl))
-
-keep-complete : (k : Walk) → 0 < k .count → held (complete k) ≡ k .head ∷ []
+keep-complete : (k : Walk) (cur : ℕ) → 0 < k .count → held (complete k cur) ≡ k .head ∷ []
 unfolding complete held
-keep-complete k h =
+keep-complete k cur h =
     let P : Phase → Type 0 = λ p. held p ≡ k .head ∷ [] in
     on P (leb (k .count) (k .reads)) (λ e. rw (ne-eqb (k .count) 0 (λ z. omega arith))) (λ e. on P (ltb (k .r) 16) (λ f. refl) (λ f. refl))
 
-keep-chain : (k : Walk) (d : Desc) (t : Tested) → held (described k d t) ≡ k .head ∷ []
+keep-chain : (k : Walk) (cur : ℕ) (d : Desc) (t : Tested) → held (described k cur d t) ≡ k .head ∷ []
 unfolding described held
-keep-chain k d (Bad n) = rw (ne-eqb (k .count + 1) 0 (λ z. omega arith))
-keep-chain k d (Next x) = rw (tally-same k (d .flags) (d .len) .0)
-keep-chain k d (Last x) =
+keep-chain k cur d (Bad n) = rw (ne-eqb (k .count + 1) 0 (λ z. omega arith))
+keep-chain k cur d (Next x) = rw (tally-same k (d .flags) (d .len) .0)
+keep-chain k cur d (Last x) =
     let y = tally-same k (d .flags) (d .len) in
-    keep-complete (tally k (d .flags) (d .len)) (omega (arith, y .1)) ∙ ap (λ (h : ℕ). h ∷ []) (y .0)
+    keep-complete (tally k (d .flags) (d .len)) cur (omega (arith, y .1)) ∙ ap (λ (h : ℕ). h ∷ []) (y .0)
 
 keep-decided : (k : Walk) (p : Place) (job : Job) → held (decided k p job) ≡ k .head ∷ []
 unfolding decided held
@@ -93,13 +89,13 @@ pub conserve : (c : Cfg) (t : ℕ) (chain stage : List ℕ) (p : Phase) (f : Lis
 unfolding next takes gives held
 conserve c t chain stage Poll f = sym (keep-poll (c .queue .size) t (word 2 0 f))
 conserve c t chain stage Entry f = refl
-conserve c t chain stage (Chain k cur) f = sym (keep-chain k (descAt 0 f) (tested (c .map) (c .queue .size) k (descAt 0 f)))
+conserve c t chain stage (Chain k cur) f = sym (keep-chain k cur (descAt 0 f) (tested (c .map) (c .queue .size) k (descAt 0 f)))
 conserve c t chain stage (Header k p got) f =
     sym (keep-gathered (c .disk) k p got (left chain p .len) (lacks got (left chain p .len)) (word 4 0 (put stage got f)) (word 8 8 (put stage got f)))
 conserve c t chain stage (Payload k p s got) f = sym (keep-paid k p s got (left chain p .len))
 conserve c t chain stage (Answer k job got) f = refl
 conserve c t chain stage (Publish k got) f = refl
-conserve c t chain stage (Broken reason head count) f = append-nil (pick (eqb count 0) [] (head ∷ []))
+conserve c t chain stage (Broken reason head count at) f = append-nil (pick (eqb count 0) [] (head ∷ []))
 
 -- heads of fates
 heads-answered : (hs : List ℕ) → map headOf (map answered hs) ≡ hs
@@ -126,7 +122,7 @@ takes-same (Header k p got) = refl
 takes-same (Payload k p s got) = refl
 takes-same (Answer k job got) = refl
 takes-same (Publish k got) = refl
-takes-same (Broken reason head count) = refl
+takes-same (Broken reason head count at) = refl
 
 pick-nil : (b : Bool) → _≡_ {A = List Fate} (pick b [] []) []
 pick-nil true = refl
@@ -142,11 +138,11 @@ gives-two chain stage f (Header k p got) q = pick-nil (eqb (codeAfter q) 2)
 gives-two chain stage f (Payload k p s got) q = pick-nil (eqb (codeOf (effect chain stage (Payload k p s got) f) q) 2)
 gives-two chain stage f (Answer k job got) q = pick-nil (eqb (codeAfter q) 2)
 gives-two chain stage f (Publish k got) q = refl
-gives-two chain stage f (Broken reason head count) q = pick-nil (eqb (codeAfter q) 2)
+gives-two chain stage f (Broken reason head count at) q = pick-nil (eqb (codeAfter q) 2)
 
-at-hand-on : (w : World) → 52 ≤ length (w .state) → level (w .state) ≡ 3 → atHand w ≡ held (phaseOf (rowAt (w .state)))
+at-hand-on : (w : World) → stateWords ≤ length (w .state) → level (w .state) ≡ 3 → atHand w ≡ held (phaseOf (rowAt (w .state)))
 unfolding atHand
-at-hand-on w l h = rw (le-ltb (length (w .state)) 52 l, eq-eqb (level (w .state)) 3 h)
+at-hand-on w l h = rw (le-ltb (length (w .state)) stateWords l, eq-eqb (level (w .state)) 3 h)
 
 account-stepped : (w : World) (mem : List ℕ) → ((i : ℕ) → getD mem i 0 < 256)
     → Going (w .state) (phaseOf (rowAt (w .state))) (length mem) (length (w .backing)) (w .chain) (length (w .stage)) → Made (w .state) (w .chain)
@@ -158,15 +154,16 @@ account-stepped w mem b g m =
     let s = w .state in
     let p = phaseOf (rowAt s) in
     let c = cfgOf (configAt s) (mapWords s) in
-    let f = fetched c (stateOf (getD s 40 0) (getD s 41 0) p) (w .chain) mem in
+    let f = fetched c (stateOf (getD s 40 0) (getD s 41 0) (getD s 52 0) p) (w .chain) mem in
     let q = next c (getD s 40 0) (w .chain) (w .stage) p f in
     let e = effect (w .chain) (w .stage) p f in
     let t = counted e (getD s 40 0) in
     let a = counted e (getD s 41 0) in
+    let n = measured c (getD s 52 0) p f in
     let o = leaves (steppedOn s mem (w .backing) (w .chain) (w .stage)) in
-    let x : phaseOf (rowAt (saved s t a q)) ≡ q = phase-saved s t a q (g .words-long) in
+    let x : phaseOf (rowAt (saved s t a n q)) ≡ q = phase-saved s t a n q (g .words-long) in
     let y : atHand o ≡ held q =
-    at-hand-on o (rw (length-saved s t a q) (g .words-long)) (stays s mem (w .backing) (w .chain) (w .stage) b g m) ∙ ap held x in
+    at-hand-on o (rw (length-saved s t a n q) (g .words-long)) (stays s mem (w .backing) (w .chain) (w .stage) b g m) ∙ ap held x in
     rw (at-hand-on w (g .words-long) (g .enabled), x, gives-two (w .chain) (w .stage) f p q, heads-answered (gives p), y) (conserve c (getD s 40 0) (w .chain) (w .stage) p f)
 
 -- one step, on the words
@@ -182,11 +179,11 @@ account-step w mem b k =
     (λ g. account-stepped w mem b g (k (g .words-long) (g .enabled)))
 
 -- nothing is at hand where no queue is enabled, or it only polls
-at-hand-off : (w : World) → (52 ≤ length (w .state) → level (w .state) ≡ 3 → held (phaseOf (rowAt (w .state))) ≡ []) → atHand w ≡ []
+at-hand-off : (w : World) → (stateWords ≤ length (w .state) → level (w .state) ≡ 3 → held (phaseOf (rowAt (w .state))) ≡ []) → atHand w ≡ []
 unfolding atHand
 at-hand-off w f =
     on (λ (l : List ℕ). l ≡ []) (ltb (length (w .state)) stateWords) (λ e. refl)
-    (λ e. on (λ (l : List ℕ). l ≡ []) (eqb (level (w .state)) 3) (λ h. f (ltb-false (length (w .state)) 52 e) (eqb-true (level (w .state)) 3 h)) (λ h. refl))
+    (λ e. on (λ (l : List ℕ). l ≡ []) (eqb (level (w .state)) 3) (λ h. f (ltb-false (length (w .state)) stateWords e) (eqb-true (level (w .state)) 3 h)) (λ h. refl))
 
 at-hand-tag : (w : World) (n : ℕ) → getD (w .state) 0 0 ≡ n → (n ≡ 3 → ⊥) → atHand w ≡ []
 at-hand-tag w n e f = at-hand-off w (λ l h. absurd (f (sym e ∙ level-tag (w .state) h)))
@@ -214,7 +211,7 @@ account-memory w ws m =
     (λ f. rw (
       heads-dropped (atHand w),
       at-hand-tag (with-state w (put (w .state) 0 (1 ∷ m ∷ length ws / 3 ∷ ws))) 1
-          (put-in (w .state) 0 (1 ∷ m ∷ length ws / 3 ∷ ws) 0 (omega arith) (omega (arith, ltb-false (length (w .state)) 52 e))) (λ z. omega arith),
+          (put-in (w .state) 0 (1 ∷ m ∷ length ws / 3 ∷ ws) 0 (omega arith) (omega (arith, ltb-false (length (w .state)) stateWords e))) (λ z. omega arith),
     ))
     (λ f. rw f (append-nil (atHand w))))
 
@@ -229,13 +226,13 @@ account-disk w start sectors ro id b =
     (λ g. on P (eqb (diskCode start sectors b) 0)
     (λ h. rw (
       at-hand-level w (level (w .state)) refl (λ z. omega (arith, leb-true (level (w .state)) 2 (both-r (leb 1 (level (w .state))) (leb (level (w .state)) 2) f))),
-      at-hand-tag (with-state w (diskSet (w .state) start sectors ro id b)) 2 (disk-tag (w .state) start sectors ro id b (omega (arith, ltb-false (length (w .state)) 52 e))) (λ z. omega arith),
+      at-hand-tag (with-state w (diskSet (w .state) start sectors ro id b)) 2 (disk-tag (w .state) start sectors ro id b (omega (arith, ltb-false (length (w .state)) stateWords e))) (λ z. omega arith),
     ))
     (λ h. append-nil (atHand w)))
     (λ g. append-nil (atHand w)))
     (λ f. append-nil (atHand w)))
 
-account-enabled : (w : World) (c g start : ℕ) (x : Areas) → 52 ≤ length (w .state) → level (w .state) ≡ 2 → atHand w ++ [] ≡ atHand (with-state w (enabledWith (w .state) c g start x .state))
+account-enabled : (w : World) (c g start : ℕ) (x : Areas) → stateWords ≤ length (w .state) → level (w .state) ≡ 2 → atHand w ++ [] ≡ atHand (with-state w (enabledWith (w .state) c g start x .state))
 unfolding enabledWith
 account-enabled w c g start (Refused n) l e = append-nil (atHand w)
 account-enabled w c g start (Placed q) l e =
@@ -255,7 +252,7 @@ account-enable w size desc avail used c g start =
     let P : Set → Type 0 = λ x. atHand w ++ [] ≡ atHand (with-state w (x .state)) in
     on P (ltb (length (w .state)) stateWords) (λ e. append-nil (atHand w))
     (λ e. on P (eqb (level (w .state)) 2)
-    (λ f. account-enabled w c g start (areas (regions (mapWords (w .state))) size desc avail used) (ltb-false (length (w .state)) 52 e) (eqb-true (level (w .state)) 2 f))
+    (λ f. account-enabled w c g start (areas (regions (mapWords (w .state))) size desc avail used) (ltb-false (length (w .state)) stateWords e) (eqb-true (level (w .state)) 2 f))
     (λ f. append-nil (atHand w)))
 
 account-reset : (w : World) → atHand w ++ taken w reset ≡ map headOf (fates w reset) ++ atHand (leaves (ran w reset))
@@ -264,7 +261,7 @@ account-reset w =
     let P : List ℕ → Type 0 = λ s. atHand w ++ [] ≡ map headOf (map dropped (atHand w)) ++ atHand (with-state w s) in
     on (λ (x : Set). P (x .state)) (ltb (length (w .state)) stateWords) (λ e. rw (at-hand-short w e))
     (λ e. on P (eqb (level (w .state)) 3)
-    (λ f. rw (heads-dropped (atHand w), at-hand-tag (with-state w (set (w .state) 0 2)) 2 (getD-set-same (w .state) 0 2 0 (omega (arith, ltb-false (length (w .state)) 52 e))) (λ z. omega arith)))
+    (λ f. rw (heads-dropped (atHand w), at-hand-tag (with-state w (set (w .state) 0 2)) 2 (getD-set-same (w .state) 0 2 0 (omega (arith, ltb-false (length (w .state)) stateWords e))) (λ z. omega arith)))
     (λ f. rw (at-hand-level w (level (w .state)) refl (eqb-false (level (w .state)) 3 f))))
 
 account-call : (w : World) (c : Call) → BytesNow c → Kept w → atHand w ++ taken w c ≡ map headOf (fates w c) ++ atHand (leaves (ran w c))

@@ -117,7 +117,7 @@ read-only w (stepOver mem) k n =
     (λ c. on P (longEnough (w .state) (length mem) (length (w .backing)) (length (w .chain)) (length (w .stage)))
     (λ d. on P (ready (getD (w .state) 1 0) (w .chain) (phaseOf (rowAt (w .state))))
     (λ e. locked (getD (w .state) 29 0) (w .chain) (w .stage) (part (wanted (w .state) (w .chain) .at) (wanted (w .state) (w .chain) .len) mem) (phaseOf (rowAt (w .state))) n
-    (k (ltb-false (length (w .state)) 52 a) (eqb-true (level (w .state)) 3 b) .open-disk))
+    (k (ltb-false (length (w .state)) stateWords a) (eqb-true (level (w .state)) 3 b) .open-disk))
     (λ e. refl))
     (λ d. refl)))
     (λ b. refl))

@@ -20,7 +20,7 @@ use Rattle.model.specs.Sane.{sane}
 use Rattle.model.proofs.Tests.{on, both-l, both-split, told}
 use Rattle.model.proofs.Memory.{locate-slice, memory-sound}
 use Rattle.words.specs.Layout.{stateWords, rowOf, rowWords, rowAt, phaseOf, mapWords, memoryOk, diskOk, queueOk, lentOk, tagsOk, phaseOk, enabledOk, level}
-use Rattle.hostiledisk.specs.Calls.{Set, hdMemory, flag, diskSet, hdDisk, queueSet, enabledWith, hdEnableAt}
+use Rattle.hostiledisk.specs.Calls.{Set, hdMemory, flag, diskSet, hdDisk, queueWords, queueSet, enabledWith, hdEnableAt}
 use Rattle.hostiledisk.proofs.Laws.{memory-ok, level-two}
 use Rattle.guarantees.proofs.Good.{both-true}
 use Rattle.guarantees.proofs.Stays.{tower-all}
@@ -73,11 +73,11 @@ level-two-parts : (s : List ℕ) → level s ≡ 2 → (memoryOk s ≡ true) × 
 unfolding level
 level-two-parts s h = two-parts (memoryOk s) (eqb (getD s 0 0) 1) (diskOk s) (eqb (getD s 0 0) 2) (eqb (getD s 0 0) 3) (enabledOk s) h
 
-queue-tag : (s : List ℕ) (q : Queue) (c g start : ℕ) → 52 ≤ length s → getD (queueSet s q c g start) 0 0 ≡ 3
+queue-tag : (s : List ℕ) (q : Queue) (c g start : ℕ) → stateWords ≤ length s → getD (queueSet s q c g start) 0 0 ≡ 3
 unfolding queueSet
 queue-tag s q c g start l = put-below (set s 0 3) 34 _ 0 (omega arith) ∙ getD-set-same s 0 3 0 (omega arith)
 
-module _ (s : List ℕ) (q : Queue) (c g start : ℕ) (l : 52 ≤ length s) where
+module _ (s : List ℕ) (q : Queue) (c g start : ℕ) (l : stateWords ≤ length s) where
   o : (i : ℕ) → 0 < i → i < 34 → getD (queueSet s q c g start) i 0 ≡ getD s i 0
   o i h u = queue-other s q c g start i h u
 
@@ -90,19 +90,19 @@ module _ (s : List ℕ) (q : Queue) (c g start : ℕ) (l : 52 ≤ length s) wher
   disk-enabled =
       rw (o 27 (omega arith) (omega arith), o 28 (omega arith) (omega arith), o 30 (omega arith) (omega arith), o 29 (omega arith) (omega arith), o 33 (omega arith) (omega arith))
 
-  w : (j : ℕ) → j < 18 → getD (queueSet s q c g start) (34 + j) 0 ≡ getD (q .size ∷ q .desc ∷ q .avail ∷ q .used ∷ c ∷ g ∷ start ∷ start ∷ rowWords (rowOf Poll)) j 0
+  w : (j : ℕ) → j < 19 → getD (queueSet s q c g start) (34 + j) 0 ≡ getD (queueWords q c g start) j 0
   w j u = queue-word s q c g start j l u
 
   queue-enabled : Inside (getD s 1 0) q → 2 * q .size ≤ c → 1048576 ≤ g → start < 65536 → queueOk (queueSet s q c g start) ≡ true
-  unfolding queueOk lentOk
+  unfolding queueOk lentOk rowWords
   queue-enabled i hc hg hs =
-      rw (w 0 (omega arith), w 1 (omega arith), w 2 (omega arith), w 3 (omega arith), w 4 (omega arith), w 5 (omega arith), w 6 (omega arith), w 7 (omega arith), o 1 (omega arith) (omega arith))
+      rw (w 0 (omega arith), w 1 (omega arith), w 2 (omega arith), w 3 (omega arith), w 4 (omega arith), w 5 (omega arith), w 6 (omega arith), w 7 (omega arith), w 18 (omega arith), o 1 (omega arith) (omega arith))
       (both-true (sizeOk (q .size)) _ (i .size-ok)
       (both-true (leb (q .desc + 16 * q .size) (getD s 1 0)) _ (le-leb (q .desc + 16 * q .size) (getD s 1 0) (i .desc-in))
       (both-true (leb (q .avail + (6 + 2 * q .size)) (getD s 1 0)) _ (le-leb (q .avail + (6 + 2 * q .size)) (getD s 1 0) (i .avail-in))
       (both-true (leb (q .used + (6 + 8 * q .size)) (getD s 1 0)) _ (le-leb (q .used + (6 + 8 * q .size)) (getD s 1 0) (i .used-in))
       (both-true (leb (2 * q .size) c) _ (le-leb (2 * q .size) c hc)
-      (both-true (leb 1048576 g) _ (le-leb 1048576 g hg) (both-true (ltb start 65536) _ (lt-ltb start 65536 hs) (lt-ltb start 65536 hs))))))))
+      (both-true (leb 1048576 g) _ (le-leb 1048576 g hg) (both-true (ltb start 65536) _ (lt-ltb start 65536 hs) (both-true (ltb start 65536) _ (lt-ltb start 65536 hs) (le-leb 0 (q .size) (omega arith))))))))))
 
   phase-enabled : phaseOk (queueSet s q c g start) ≡ true
   unfolding phaseOk tagsOk sane rowWords rowOf
@@ -137,7 +137,7 @@ refused-code rs size desc avail used n =
     (λ a e h. let k : _≡_ {A = ℕ} n 25 = cc in omega arith)
 
 -- hd_enable_at answered 0: the queue is enabled
-enabled-areas : (s : List ℕ) (c g start : ℕ) (x : Areas) (size desc avail used : ℕ) → 52 ≤ length s → level s ≡ 2 → areas (regions (mapWords s)) size desc avail used ≡ x
+enabled-areas : (s : List ℕ) (c g start : ℕ) (x : Areas) (size desc avail used : ℕ) → stateWords ≤ length s → level s ≡ 2 → areas (regions (mapWords s)) size desc avail used ≡ x
     → enabledWith s c g start x .code ≡ 0 → level (enabledWith s c g start x .state) ≡ 3
 unfolding enabledWith
 enabled-areas s c g start (Refused n) size desc avail used l h e = λ z. absurd (refused-code (regions (mapWords s)) size desc avail used n e z)
@@ -156,7 +156,7 @@ enable-enables s size desc avail used c g start =
     let P : Set → Type 0 = λ x. x .code ≡ 0 → level (x .state) ≡ 3 in
     on P (ltb (length s) stateWords) (λ e z. absurd (omega arith))
     (λ e. on P (eqb (level s) 2)
-    (λ f. enabled-areas s c g start (areas (regions (mapWords s)) size desc avail used) size desc avail used (ltb-false (length s) 52 e) (eqb-true (level s) 2 f) refl)
+    (λ f. enabled-areas s c g start (areas (regions (mapWords s)) size desc avail used) size desc avail used (ltb-false (length s) stateWords e) (eqb-true (level s) 2 f) refl)
     (λ f z. absurd (omega arith)))
 
 -- a map that set-up accepts: whole regions, 1 to 8
@@ -181,7 +181,7 @@ part-after s m n ws l =
     (part-put (set (set (set s 0 1) 1 m) 2 n) 3 (length ws) ws refl (simp length-set (omega arith)))
 
 -- hd_memory answered 0: memory is registered
-memory-level : (s ws : List ℕ) (m : ℕ) → 52 ≤ length s → memoryCode m ws ≡ 0 → level (put s 0 (1 ∷ m ∷ length ws / 3 ∷ ws)) ≡ 1
+memory-level : (s ws : List ℕ) (m : ℕ) → stateWords ≤ length s → memoryCode m ws ≡ 0 → level (put s 0 (1 ∷ m ∷ length ws / 3 ∷ ws)) ≡ 1
 unfolding level memoryOk
 memory-level s ws m l e =
     let few = memory-words m ws e in
@@ -196,7 +196,7 @@ unfolding hdMemory
 memory-registers s ws m =
     let P : Set → Type 0 = λ x. x .code ≡ 0 → level (x .state) ≡ 1 in
     on P (ltb (length s) stateWords) (λ e z. absurd (omega arith))
-    (λ e. on P (eqb (memoryCode m ws) 0) (λ f z. memory-level s ws m (ltb-false (length s) 52 e) (eqb-true (memoryCode m ws) 0 f)) (λ f z. absurd (eqb-false (memoryCode m ws) 0 f z)))
+    (λ e. on P (eqb (memoryCode m ws) 0) (λ f z. memory-level s ws m (ltb-false (length s) stateWords e) (eqb-true (memoryCode m ws) 0 f)) (λ f z. absurd (eqb-false (memoryCode m ws) 0 f z)))
 
 -- hd_disk answered 0: there is a disk
 low-parts : (a b c d e f : Bool) → 1 ≤ pick a (pick b 1 (pick c (pick d 2 (pick e (pick f 3 0) 0)) 0)) 0 → a ≡ true
@@ -210,7 +210,7 @@ level-some s h = low-parts (memoryOk s) (eqb (getD s 0 0) 1) (diskOk s) (eqb (ge
 flag-low : (ro : ℕ) → flag ro ≤ 1
 flag-low ro = on (λ (n : ℕ). n ≤ 1) (eqb ro 0) (λ e. omega arith) (λ e. omega arith)
 
-disk-level : (s : List ℕ) (start sectors ro : ℕ) (id : List ℕ) (b : ℕ) → 52 ≤ length s → 1 ≤ level s → diskCode start sectors b ≡ 0 → ((i : ℕ) → getD id i 0 < 256)
+disk-level : (s : List ℕ) (start sectors ro : ℕ) (id : List ℕ) (b : ℕ) → stateWords ≤ length s → 1 ≤ level s → diskCode start sectors b ≡ 0 → ((i : ℕ) → getD id i 0 < 256)
     → level (diskSet s start sectors ro id b) ≡ 2
 unfolding level memoryOk diskOk diskSet
 disk-level s start sectors ro id b l h e f =
@@ -219,7 +219,7 @@ disk-level s start sectors ro id b l h e f =
     let some = m .some in
     let xs : List ℕ = start ∷ sectors ∷ flag ro ∷ b ∷ word 8 0 id ∷ word 8 8 id ∷ word 4 16 id ∷ [] in
     let s₂ = set s 0 2 in
-    let k : 52 ≤ length s₂ = rw (length-set s 0 2) l in
+    let k : stateWords ≤ length s₂ = rw (length-set s 0 2) l in
     let at : (j : ℕ) → j < 7 → getD (put s₂ 27 xs) (27 + j) 0 ≡ getD xs j 0 = λ j u. put-in s₂ 27 xs j u (omega arith) in
     let o : (i : ℕ) → 0 < i → i < 27 → getD (put s₂ 27 xs) i 0 ≡ getD s i 0 = λ i u v. put-below s₂ 27 xs i v ∙ getD-set-other s 0 i 2 0 (λ z. omega arith) in
     let t : getD (put s₂ 27 xs) 0 0 ≡ 2 = put-below s₂ 27 xs 0 (omega arith) ∙ getD-set-same s 0 2 0 (omega arith) in
@@ -252,7 +252,7 @@ disk-registers s start sectors ro id b f =
     (λ e. on P (both (leb 1 (level s)) (leb (level s) 2))
     (λ h. on P (eqb (length id) 20)
     (λ i. on P (eqb (diskCode start sectors b) 0)
-    (λ d z. disk-level s start sectors ro id b (ltb-false (length s) 52 e) (leb-true 1 (level s) (both-l (leb 1 (level s)) (leb (level s) 2) h)) (eqb-true (diskCode start sectors b) 0 d) f)
+    (λ d z. disk-level s start sectors ro id b (ltb-false (length s) stateWords e) (leb-true 1 (level s) (both-l (leb 1 (level s)) (leb (level s) 2) h)) (eqb-true (diskCode start sectors b) 0 d) f)
     (λ d z. absurd (eqb-false (diskCode start sectors b) 0 d z)))
     (λ i z. absurd (omega arith)))
     (λ h z. absurd (omega arith)))

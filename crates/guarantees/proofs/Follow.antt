@@ -7,18 +7,18 @@ use mathlib.Core.Path.{_≡_, refl, sym, ap, _∙_}
 use native.Mathlib.Omega.{arith}
 use lib.Dec.{leb, ltb, eqb}
 use lib.ListN.{getD, length}
-use borrow.Author.Tests.{le-ltb, eq-eqb}
+use borrow.Author.Tests.{le-ltb, le-leb, eq-eqb}
 use Rattle.model.specs.Pick.{pick, both}
 use Rattle.model.specs.Bytes.{put, part}
 use Rattle.model.specs.Chain.{descAt, tested, held, keeps}
-use Rattle.model.specs.Step.{Cfg, State, Out, step, stepWith, fetched, next, chained, staged, effect, counted, ends, left, shifted, diskStores, codeOf, codeAfter, memStores, apply, want, nowhere}
+use Rattle.model.specs.Step.{Cfg, State, Out, step, stepWith, fetched, next, chained, measured, staged, effect, counted, ends, left, shifted, diskStores, codeOf, codeAfter, memStores, apply, want, nowhere}
 use Rattle.model.proofs.Tests.{on}
 use Rattle.model.proofs.Lists.{below, length-put}
 use Rattle.words.specs.Layout.{stateWords, rowAt, phaseOf, configAt, mapWords, saved, level}
-use Rattle.words.proofs.Saved.{phase-saved, taken-saved, answered-saved, others-saved, length-saved}
+use Rattle.words.proofs.Saved.{phase-saved, taken-saved, answered-saved, descs-saved, others-saved, length-saved}
 use Rattle.device.specs.Turn.{cfgOf, stateOf}
 use Rattle.device.specs.declared.Config.{Config}
-use Rattle.hostiledisk.specs.Calls.{Called, hdStep, untouched, isBroken, longEnough, stepped, steppedOn, Going}
+use Rattle.hostiledisk.specs.Calls.{Called, told, seenOf, shown, shownMore, statusWords, hdStatus, hdStep, untouched, isBroken, longEnough, stepped, steppedOn, Going}
 use Rattle.hostiledisk.proofs.Laws.{level-three}
 use Rattle.guarantees.specs.History.{Call, step as stepOver, World, ran, left as leaves, run, steps}
 use Rattle.guarantees.specs.Good.{Made}
@@ -51,7 +51,7 @@ length-chained c chain (Header k p got) f = refl
 length-chained c chain (Payload k p s got) f = refl
 length-chained c chain (Answer k job got) f = refl
 length-chained c chain (Publish k got) f = refl
-length-chained c chain (Broken reason head count) f = refl
+length-chained c chain (Broken reason head count at) f = refl
 
 length-staged : (chain stage : List ℕ) (p : Phase) (f : List ℕ) → length (staged chain stage p f) ≡ length stage
 unfolding staged
@@ -63,12 +63,12 @@ length-staged chain stage (Payload k p s got) f =
     on (λ (x : List ℕ). length x ≡ length stage) (ends k got (left chain p .len)) (λ e. refl) (λ e. length-put stage got f)
 length-staged chain stage (Answer k job got) f = refl
 length-staged chain stage (Publish k got) f = refl
-length-staged chain stage (Broken reason head count) f = refl
+length-staged chain stage (Broken reason head count at) f = refl
 
-config-saved : (s : List ℕ) (t a : ℕ) (p : Phase) → configAt (saved s t a p) ≡ configAt s
+config-saved : (s : List ℕ) (t a n : ℕ) (p : Phase) → configAt (saved s t a n p) ≡ configAt s
 unfolding configAt
-config-saved s t a p =
-    let w : (i : ℕ) → i < 40 → getD (saved s t a p) i 0 ≡ getD s i 0 = λ i u. others-saved s t a p i (below u) in
+config-saved s t a n p =
+    let w : (i : ℕ) → i < 40 → getD (saved s t a n p) i 0 ≡ getD s i 0 = λ i u. others-saved s t a n p i (below u) in
     rw (
       w 34 (omega arith),
       w 35 (omega arith),
@@ -83,18 +83,18 @@ config-saved s t a p =
       w 1 (omega arith),
     )
 
-long-saved : (s : List ℕ) (t a : ℕ) (p : Phase) (m b c g : ℕ) → longEnough (saved s t a p) m b c g ≡ longEnough s m b c g
+long-saved : (s : List ℕ) (t a n : ℕ) (p : Phase) (m b c g : ℕ) → longEnough (saved s t a n p) m b c g ≡ longEnough s m b c g
 unfolding longEnough
-long-saved s t a p m b c g =
-    let w : (i : ℕ) → i < 40 → getD (saved s t a p) i 0 ≡ getD s i 0 = λ i u. others-saved s t a p i (below u) in
+long-saved s t a n p m b c g =
+    let w : (i : ℕ) → i < 40 → getD (saved s t a n p) i 0 ≡ getD s i 0 = λ i u. others-saved s t a n p i (below u) in
     rw (w 1 (omega arith), w 30 (omega arith), w 38 (omega arith), w 39 (omega arith))
 
 -- a queue that set-up and steps made, and that is not broken, makes the step
-goes-on : (w : World) (mem : List ℕ) → 52 ≤ length (w .state) → level (w .state) ≡ 3 → Made (w .state) (w .chain)
+goes-on : (w : World) (mem : List ℕ) → stateWords ≤ length (w .state) → level (w .state) ≡ 3 → Made (w .state) (w .chain)
     → longEnough (w .state) (length mem) (length (w .backing)) (length (w .chain)) (length (w .stage)) ≡ true → isBroken (phaseOf (rowAt (w .state))) ≡ false
     → hdStep (w .state) mem (w .backing) (w .chain) (w .stage) ≡ steppedOn (w .state) mem (w .backing) (w .chain) (w .stage)
 unfolding hdStep
-goes-on w mem l h m g b = rw (le-ltb (length (w .state)) 52 l, eq-eqb (level (w .state)) 3 h, b, g, made-ready (w .state) (w .chain) h m)
+goes-on w mem l h m g b = rw (le-ltb (length (w .state)) stateWords l, eq-eqb (level (w .state)) 3 h, b, g, made-ready (w .state) (w .chain) h m)
 
 -- one call beside one step of the model
 pub record Beside (c : Cfg) (n : ℕ) (x : Called) (o : Out) : Type 0 where
@@ -106,7 +106,7 @@ stepped-model : (c : Cfg) (n : ℕ) (w : World) (s : State) (mem backing chain s
     → steppedOn (w .state) mem (w .backing) (w .chain) (w .stage) ≡ stepped (w .state) (step c s mem backing chain stage)
 unfolding steppedOn
 stepped-model c n w s mem backing chain stage m =
-    rw (m .cfg-is, m .taken-is, m .answered-is, m .phase-is, m .backing-is, m .chain-is, m .stage-is)
+    rw (m .cfg-is, m .taken-is, m .answered-is, m .descs-is, m .phase-is, m .backing-is, m .chain-is, m .stage-is)
 
 lengths : (c : Cfg) (s : State) (mem backing chain stage : List ℕ)
     → (length (step c s mem backing chain stage .backing) ≡ length backing) × (length (step c s mem backing chain stage .chain) ≡ length chain)
@@ -124,6 +124,7 @@ matches-stepped c n w s mem backing chain stage b l m nb =
     let o = step c s mem backing chain stage in
     let t = o .state .taken in
     let a = o .state .answered in
+    let d = o .state .descs in
     let p = o .state .phase in
     let z = lengths c s mem backing chain stage in
     let few = level-three (w .state) (m .enabled) .memory .few in
@@ -141,15 +142,16 @@ matches-stepped c n w s mem backing chain stage b l m nb =
       mem-is = refl;
       after =
           record {
-            words-long = rw (length-saved (w .state) t a p) (m .words-long);
+            words-long = rw (length-saved (w .state) t a d p) (m .words-long);
             enabled = ap (λ (x : Called). level (x .state)) (sym e) ∙ stays (w .state) mem (w .backing) (w .chain) (w .stage) b g (m .made);
             made = rw e at (made-step (w .state) mem (w .backing) (w .chain) (w .stage) b g (m .made));
-            slices-long = long-saved (w .state) t a p n (length (o .backing)) (length (o .chain)) (length (o .stage))
+            slices-long = long-saved (w .state) t a d p n (length (o .backing)) (length (o .chain)) (length (o .stage))
                 ∙ rw (z .0, z .1, z .2, ← (m .backing-is), ← (m .chain-is), ← (m .stage-is)) (m .slices-long);
-            cfg-is = rw (config-saved (w .state) t a p, map-saved (w .state) t a p few) (m .cfg-is);
-            taken-is = taken-saved (w .state) t a p (m .words-long);
-            answered-is = answered-saved (w .state) t a p (m .words-long);
-            phase-is = phase-saved (w .state) t a p (m .words-long);
+            cfg-is = rw (config-saved (w .state) t a d p, map-saved (w .state) t a d p few) (m .cfg-is);
+            taken-is = taken-saved (w .state) t a d p (m .words-long);
+            answered-is = answered-saved (w .state) t a d p (m .words-long);
+            descs-is = descs-saved (w .state) t a d p (m .words-long);
+            phase-is = phase-saved (w .state) t a d p (m .words-long);
             backing-is = refl;
             chain-is = refl;
             stage-is = refl;
@@ -157,32 +159,32 @@ matches-stepped c n w s mem backing chain stage b l m nb =
     }
 
 -- .. of a broken queue, which stays as it is
-broken-model : (c : Cfg) (t a : ℕ) (reason head count : ℕ) (mem backing chain stage : List ℕ)
-    → step c (stateOf t a (Broken reason head count)) mem backing chain stage
-    ≡ record { state = stateOf t a (Broken reason head count); mem = mem; backing = backing; chain = chain; stage = stage; code = 3 }
-unfolding step stepWith effect next chained staged memStores diskStores shifted apply counted codeOf codeAfter
-broken-model c t a reason head count mem backing chain stage = refl
+broken-model : (c : Cfg) (t a n : ℕ) (reason head count at : ℕ) (mem backing chain stage : List ℕ)
+    → step c (stateOf t a n (Broken reason head count at)) mem backing chain stage
+    ≡ record { state = stateOf t a n (Broken reason head count at); mem = mem; backing = backing; chain = chain; stage = stage; code = 3 }
+unfolding step stepWith effect next chained measured staged memStores diskStores shifted apply counted codeOf codeAfter
+broken-model c t a n reason head count at mem backing chain stage = refl
 
-module _ (c : Cfg) (n : ℕ) (w : World) (t a : ℕ) (mem backing chain stage : List ℕ) (b : (i : ℕ) → getD mem i 0 < 256) (l : length mem ≡ n) where
-  goes-beside : (p : Phase) → Matches c n w (stateOf t a p) backing chain stage → isBroken p ≡ false
-      → Beside c n (ran w (stepOver mem)) (step c (stateOf t a p) mem backing chain stage)
+module _ (c : Cfg) (n : ℕ) (w : World) (t a d : ℕ) (mem backing chain stage : List ℕ) (b : (i : ℕ) → getD mem i 0 < 256) (l : length mem ≡ n) where
+  goes-beside : (p : Phase) → Matches c n w (stateOf t a d p) backing chain stage → isBroken p ≡ false
+      → Beside c n (ran w (stepOver mem)) (step c (stateOf t a d p) mem backing chain stage)
   unfolding ran
   goes-beside p m nb =
       let q : isBroken (phaseOf (rowAt (w .state))) ≡ false = rw (m .phase-is) nb in
-      rw (goes-on w mem (m .words-long) (m .enabled) (m .made) (rw l (m .slices-long)) q, stepped-model c n w (stateOf t a p) mem backing chain stage m)
-      (matches-stepped c n w (stateOf t a p) mem backing chain stage b l m q)
+      rw (goes-on w mem (m .words-long) (m .enabled) (m .made) (rw l (m .slices-long)) q, stepped-model c n w (stateOf t a d p) mem backing chain stage m)
+      (matches-stepped c n w (stateOf t a d p) mem backing chain stage b l m q)
 
-  broken-beside : (reason head count : ℕ) → Matches c n w (stateOf t a (Broken reason head count)) backing chain stage
-      → Beside c n (ran w (stepOver mem)) (step c (stateOf t a (Broken reason head count)) mem backing chain stage)
+  broken-beside : (reason head count at : ℕ) → Matches c n w (stateOf t a d (Broken reason head count at)) backing chain stage
+      → Beside c n (ran w (stepOver mem)) (step c (stateOf t a d (Broken reason head count at)) mem backing chain stage)
   unfolding ran
-  broken-beside reason head count m =
+  broken-beside reason head count at m =
       rw (
-        broken-untouched (w .state) mem (w .backing) (w .chain) (w .stage) reason head count (m .words-long) (m .enabled) (m .phase-is),
-        broken-model c t a reason head count mem backing chain stage,
+        broken-untouched (w .state) mem (w .backing) (w .chain) (w .stage) reason head count at (m .words-long) (m .enabled) (m .phase-is),
+        broken-model c t a d reason head count at mem backing chain stage,
       )
       (record { code-is = refl; mem-is = refl; after = m })
 
-  pub beside : (p : Phase) → Matches c n w (stateOf t a p) backing chain stage → Beside c n (ran w (stepOver mem)) (step c (stateOf t a p) mem backing chain stage)
+  pub beside : (p : Phase) → Matches c n w (stateOf t a d p) backing chain stage → Beside c n (ran w (stepOver mem)) (step c (stateOf t a d p) mem backing chain stage)
   unfolding isBroken
   beside Poll m = goes-beside Poll m refl
   beside Entry m = goes-beside Entry m refl
@@ -191,7 +193,7 @@ module _ (c : Cfg) (n : ℕ) (w : World) (t a : ℕ) (mem backing chain stage : 
   beside (Payload k p s got) m = goes-beside (Payload k p s got) m refl
   beside (Answer k job got) m = goes-beside (Answer k job got) m refl
   beside (Publish k got) m = goes-beside (Publish k got) m refl
-  beside (Broken reason head count) m = broken-beside reason head count m
+  beside (Broken reason head count at) m = broken-beside reason head count at m
 
 -- memories of n bytes
 unfoldable pub Memories : ℕ → List (List ℕ) → Type 0
@@ -204,7 +206,7 @@ pub follows-model : (c : Cfg) (n : ℕ) (w : World) (o : Out) (ms : List (List �
 unfolding run steps model Memories
 follows-model c n w o [] h m = m
 follows-model c n w o (x ∷ ms) h m =
-    let r = beside c n w (o .state .taken) (o .state .answered) x (o .backing) (o .chain) (o .stage) (h .0) (h .1) (o .state .phase) m in
+    let r = beside c n w (o .state .taken) (o .state .answered) (o .state .descs) x (o .backing) (o .chain) (o .stage) (h .0) (h .1) (o .state .phase) m in
     follows-model c n (leaves (ran w (stepOver x))) (step c (o .state) x (o .backing) (o .chain) (o .stage)) ms (h .2) (r .after)
 
 after-model : (c : Cfg) (g : ℕ → List ℕ → List ℕ) (i n : ℕ) (o : Out) → after c g i n o ≡ model c o (found c g i n o)
@@ -218,3 +220,26 @@ pub calls-serve : (c : Cfg) (g : ℕ → List ℕ → List ℕ) (i k n : ℕ) (w
     → Matches c n w (o .state) (o .backing) (o .chain) (o .stage)
     → Matches c n (run w (steps (found c g i k o))) (after c g i k o .state) (after c g i k o .backing) (after c g i k o .chain) (after c g i k o .stage)
 calls-serve c g i k n w o h m = rw (after-model c g i k o) (follows-model c n w o (found c g i k o) h m)
+
+-- 13. hd_status shows the model's state, all ten words of it where there is room for them
+pub status-shows : (c : Cfg) (n : ℕ) (w : World) (s : State) (backing chain stage : List ℕ) → Matches c n w s backing chain stage → (out : List ℕ) → 10 ≤ length out
+    → hdStatus (w .state) out ≡ told 0 (put out 0 (shown 1 (s .taken) (s .answered) (seenOf (s .phase)) ++ shownMore (s .descs) (seenOf (s .phase))))
+unfolding hdStatus statusWords
+status-shows c n w s backing chain stage m out l =
+    rw (
+      le-ltb (length (w .state)) stateWords (m .words-long),
+      le-ltb (length out) 8 (omega arith),
+      le-leb 10 (length out) l,
+      eq-eqb (level (w .state)) 3 (m .enabled),
+      m .taken-is,
+      m .answered-is,
+      m .descs-is,
+      m .phase-is,
+    )
+
+-- .. of a broken queue: why, the head, how many descriptors were fetched, at which of them, and what the last complete chain had
+pub broken-shows : (c : Cfg) (n : ℕ) (w : World) (t a descs reason head count at : ℕ) (backing chain stage : List ℕ)
+    → Matches c n w (stateOf t a descs (Broken reason head count at)) backing chain stage → (out : List ℕ) → 10 ≤ length out
+    → hdStatus (w .state) out ≡ told 0 (put out 0 (1 ∷ reason ∷ t ∷ a ∷ 0 ∷ head ∷ count ∷ 0 ∷ at ∷ descs ∷ []))
+unfolding shown seenOf
+broken-shows c n w t a descs reason head count at backing chain stage m out l = status-shows c n w (stateOf t a descs (Broken reason head count at)) backing chain stage m out l

@@ -113,9 +113,9 @@ good-sane rs q sectors chain (Payload k p s got) g =
 good-sane rs q sectors chain (Answer k job got) g =
     both-true (fullOk q k) _ (good-full rs q chain k (g .0) (g .1)) (both-true (leb got (k .r)) _ (le-leb got (k .r) (g .2)) (g .3))
 good-sane rs q sectors chain (Publish k got) g = both-true (fullOk q k) _ (good-full rs q chain k (g .0) (g .1)) (le-leb got (k .r) (g .2))
-good-sane rs q sectors chain (Broken reason head count) g =
+good-sane rs q sectors chain (Broken reason head count at) g =
     both-true (leb 1 reason) _ (le-leb 1 reason (g .0))
-    (both-true (leb reason 8) _ (le-leb reason 8 (g .1)) (both-true (ltb head q) _ (lt-ltb head q (g .2)) (le-leb count (q + 1) (g .3))))
+    (both-true (leb reason 8) _ (le-leb reason 8 (g .1)) (both-true (ltb head q) _ (lt-ltb head q (g .2)) (both-true (leb count (q + 1)) _ (le-leb count (q + 1) (g .3)) (g .4))))
 
 -- buffers that each lie in a region lie in the slice
 all-inside : (m : ℕ) (rs : List Region) (chain : List ℕ) → sound m rs ≡ true → (d i e : ℕ) → i + d ≡ e
@@ -157,4 +157,4 @@ good-ready m rs q sectors chain (Answer k job got) h g =
     (le-leb 1 (getD chain (2 * (k .count - 1) + 1) 0)
     (spot-some rs (getD chain (2 * (k .count - 1)) 0) (getD chain (2 * (k .count - 1) + 1) 0) (g .0 .buffers (k .count - 1) (omega (arith, g .1)))))
 good-ready m rs q sectors chain (Publish k got) h g = refl
-good-ready m rs q sectors chain (Broken reason head count) h g = refl
+good-ready m rs q sectors chain (Broken reason head count at) h g = refl

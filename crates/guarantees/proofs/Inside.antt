@@ -59,7 +59,7 @@ one-range rs c t chain sectors (Payload k p s got) d a h g =
     (spot-area rs (getD chain (2 * p .buf) 0) (getD chain (2 * p .buf + 1) 0) y) (omega (arith, x .skip-in)) (omega (arith, x .skip-in)) refl)
 one-range rs c t chain sectors (Answer k job got) d a h g = none refl
 one-range rs c t chain sectors (Publish k got) d a h g = none refl
-one-range rs c t chain sectors (Broken reason head count) d a h g = none refl
+one-range rs c t chain sectors (Broken reason head count at) d a h g = none refl
 
 -- 2. the wanted range
 pub wanted-region : (s chain : List ℕ) → level s ≡ 3 → Made s chain → OneRange (regions (mapWords s)) (wanted s chain)
@@ -93,7 +93,7 @@ touched-all rs q a chain sectors (Answer k job got) u h g = (
 )
 touched-all rs q a chain sectors (Publish k got) u h g =
     (area-sub rs (q .used) (6 + 8 * q .size) 2 2 (q .used + 2) u (omega arith) (omega arith) refl, tt)
-touched-all rs q a chain sectors (Broken reason head count) u h g = tt
+touched-all rs q a chain sectors (Broken reason head count at) u h g = tt
 
 -- 3. the ranges that may be written
 pub touched-regions : (s chain : List ℕ) → level s ≡ 3 → Made s chain → AllIn (regions (mapWords s)) (touched (configAt s .queue) (getD s 41 0) chain (phaseOf (rowAt s)))

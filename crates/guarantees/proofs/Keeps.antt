@@ -7,7 +7,7 @@ use native.Mathlib.Omega.{arith}
 use native.Mathlib.Nat.{add-zero}
 use lib.Dec.{leb, ltb, eqb}
 use lib.ListN.{getD, length, length-take, length-drop, List·getD-eq-default}
-use borrow.Author.Tests.{ltb-true, ltb-false, leb-true, leb-false, eqb-true, eqb-false, eq-eqb}
+use borrow.Author.Tests.{ltb-true, ltb-false, leb-true, leb-false, eqb-true, eqb-false, eq-eqb, ne-eqb, lt-ltb}
 use Rattle.model.specs.Pick.{pick, both}
 use Rattle.model.specs.Bytes.{put, part, word}
 use Rattle.model.specs.Memory.{Region, locate}
@@ -16,10 +16,11 @@ use Rattle.model.specs.Chain.{descAt, testedBy, tested, tally, held, complete, 
 use Rattle.model.specs.Request.{fits, inOk, outOk, exactly, verdict, decided}
 use Rattle.model.specs.Step.{Cfg, left, lacks, ends, onward, gathered, paid, next, chained, fetched, want}
 use Rattle.device.specs.Turn.{stateOf}
-use Rattle.model.specs.Sane.{jobOk}
+use Rattle.model.specs.Sane.{jobOk, refusedAt}
 use Rattle.model.proofs.Tests.{told, on, both-l, both-r, both-split}
 use Rattle.model.proofs.Lists.{put-below, put-in, getD-part}
 use Rattle.model.proofs.Memory.{locate-in}
+use Rattle.model.proofs.Chain.{bad-reason, tally-same}
 use Rattle.model.proofs.Words.{word-below}
 use Rattle.guarantees.specs.Good.{before, Spot, WalkGood, Next, Good}
 use Rattle.guarantees.proofs.Good.{before-le, before-next, spot-some, next-left}
@@ -38,15 +39,15 @@ use Rattle.model.specs.declared.Phase.the-variants.{Poll, Entry, Chain, Header,
 
 -- S1 and S2
 keeps-poll : (rs : List Region) (q sectors : ℕ) (chain : List ℕ) (taken idx : ℕ) → 1 ≤ q → Good rs q sectors chain (polled q taken idx)
-unfolding polled Good
+unfolding polled Good refusedAt
 keeps-poll rs q sectors chain taken idx h =
     on (Good rs q sectors chain) (eqb (pending idx taken) 0) (λ e. tt)
-    (λ e. on (Good rs q sectors chain) (ltb q (pending idx taken)) (λ f. (omega arith, omega arith, omega arith, omega arith)) (λ f. tt))
+    (λ e. on (Good rs q sectors chain) (ltb q (pending idx taken)) (λ f. (omega arith, omega arith, omega arith, omega arith, refl)) (λ f. tt))
 
 keeps-entry : (rs : List Region) (q sectors : ℕ) (chain : List ℕ) (head : ℕ) → 1 ≤ q → Good rs q sectors chain (headed q head)
-unfolding headed Good before
+unfolding headed Good before refusedAt
 keeps-entry rs q sectors chain head h =
-    on (Good rs q sectors chain) (leb q head) (λ e. (omega arith, omega arith, omega arith, omega arith))
+    on (Good rs q sectors chain) (leb q head) (λ e. (omega arith, omega arith, omega arith, omega arith, refl))
     (λ e. let l : head < q = leb-false q head e in
     (record { head-in = l; count-in = omega arith; reads-in = omega arith; buffers = λ i h. absurd (omega arith); r-is = refl; w-is = refl }, l))
 
@@ -77,18 +78,6 @@ kept-last false false false (At y) true n g x h = let z : _≡_ {A = ℕ} 0 1 = 
 kept-last false false false (At y) false true g x h = (refl, cc, refl)
 kept-last false false false (At y) false false true x h = let z : _≡_ {A = ℕ} 0 1 = cc in absurd (omega arith)
 kept-last false false false (At y) false false false x h = let z : _≡_ {A = ℕ} 0 1 = cc in absurd (omega arith)
-
--- the reasons are 2 to 7
-bad-reason : (a s e : Bool) (f : Found) (l n g : Bool) (r : ℕ) → testedBy a s e f l n g ≡ Bad r → (1 ≤ r) × (r ≤ 8)
-unfolding testedBy
-bad-reason true s e f l n g r h = let z : _≡_ {A = ℕ} r 3 = cc in omega arith
-bad-reason false true e f l n g r h = let z : _≡_ {A = ℕ} r 4 = cc in omega arith
-bad-reason false false true f l n g r h = let z : _≡_ {A = ℕ} r 5 = cc in omega arith
-bad-reason false false false Nothing l n g r h = let z : _≡_ {A = ℕ} r 6 = cc in omega arith
-bad-reason false false false (At y) true n g r h = let z : _≡_ {A = ℕ} r 7 = cc in omega arith
-bad-reason false false false (At y) false true g r h = let z : _≡_ {A = ℕ} 0 1 = cc in absurd (omega arith)
-bad-reason false false false (At y) false false true r h = let z : _≡_ {A = ℕ} r 2 = cc in omega arith
-bad-reason false false false (At y) false false false r h = let z : _≡_ {A = ℕ} 0 1 = cc in absurd (omega arith)
 
 -- the private chain with one buffer more
 held-old : (chain : List ℕ) (n x l j : ℕ) → j < 2 * n → getD (held chain n x l) j 0 ≡ getD chain j 0
@@ -162,11 +151,18 @@ some-read rs q chain k g v = go (k .reads) refl
     go zero e = let z : k .r ≡ 0 = g .r-is ∙ ap (before chain) e in absurd (omega arith)
     go (suc n) e = omega arith
 
+-- a refused chain has a descriptor
+some-refused : (q count cur : ℕ) → 1 ≤ count → cur < q → refusedAt q count cur ≡ true
+unfolding refusedAt
+some-refused q count cur h l = rw (ne-eqb count 0 (λ z. omega arith)) (lt-ltb cur q l)
+
 -- the chain is complete
-keeps-complete : (rs : List Region) (q sectors : ℕ) (chain : List ℕ) (k : Walk) → WalkGood rs q chain k → Good rs q sectors chain (complete k)
+keeps-complete : (rs : List Region) (q sectors : ℕ) (chain : List ℕ) (k : Walk) (cur : ℕ) → WalkGood rs q chain k → 1 ≤ k .count → cur < q
+    → Good rs q sectors chain (complete k cur)
 unfolding complete Good before jobOk
-keeps-complete rs q sectors chain k g =
-    on (Good rs q sectors chain) (leb (k .count) (k .reads)) (λ e. (omega arith, omega arith, g .head-in, omega (arith, g .count-in)))
+keeps-complete rs q sectors chain k cur g h l =
+    on (Good rs q sectors chain) (leb (k .count) (k .reads))
+    (λ e. (omega arith, omega arith, g .head-in, omega (arith, g .count-in), some-refused q (k .count) cur h l))
     (λ e. let u : k .reads < k .count = leb-false (k .count) (k .reads) e in
     on (Good rs q sectors chain) (ltb (k .r) 16) (λ f. (g, u, omega arith, refl))
     (λ f. let v : 16 ≤ k .r = ltb-false (k .r) 16 f in
@@ -178,43 +174,45 @@ keeps-complete rs q sectors chain k g =
       record { buf-in = n; skip-in = spot-some rs (getD chain 0 0) (getD chain 1 0) (g .buffers 0 (omega arith)); n-is = refl },
     )))
 
-keeps-bad : (rs : List Region) (q sectors : ℕ) (chain : List ℕ) (k : Walk) (d : Desc) (r : ℕ) → WalkGood rs q chain k → (1 ≤ r) × (r ≤ 8)
-    → Good rs q sectors (keeps chain k d (Bad r)) (described k d (Bad r))
+keeps-bad : (rs : List Region) (q sectors : ℕ) (chain : List ℕ) (k : Walk) (cur : ℕ) (d : Desc) (r : ℕ) → WalkGood rs q chain k → cur < q → (1 ≤ r) × (r ≤ 7)
+    → Good rs q sectors (keeps chain k d (Bad r)) (described k cur d (Bad r))
 unfolding keeps described Good
-keeps-bad rs q sectors chain k d r g h = (h .0, h .1, g .head-in, omega (arith, g .count-in))
+keeps-bad rs q sectors chain k cur d r g l h =
+    (h .0, omega (arith, h .1), g .head-in, omega (arith, g .count-in), some-refused q (k .count + 1) cur (omega arith) l)
 
-keeps-goes : (rs : List Region) (q sectors : ℕ) (chain : List ℕ) (k : Walk) (d : Desc) (x : ℕ) → WalkGood rs q chain k → Kept rs q k d x → d .len ≤ 4294967295
-    → 2 * q ≤ length chain → d .next < q → Good rs q sectors (keeps chain k d (Goes x)) (described k d (Goes x))
+keeps-goes : (rs : List Region) (q sectors : ℕ) (chain : List ℕ) (k : Walk) (cur : ℕ) (d : Desc) (x : ℕ) → WalkGood rs q chain k → Kept rs q k d x → d .len ≤ 4294967295
+    → 2 * q ≤ length chain → d .next < q → Good rs q sectors (keeps chain k d (Goes x)) (described k cur d (Goes x))
 unfolding keeps described Good
-keeps-goes rs q sectors chain k d x g t s l n = (keeps-walk rs q chain k d x g t s l, n)
+keeps-goes rs q sectors chain k cur d x g t s l n = (keeps-walk rs q chain k d x g t s l, n)
 
-keeps-last : (rs : List Region) (q sectors : ℕ) (chain : List ℕ) (k : Walk) (d : Desc) (x : ℕ) → WalkGood rs q chain k → Kept rs q k d x → d .len ≤ 4294967295
-    → 2 * q ≤ length chain → Good rs q sectors (keeps chain k d (Last x)) (described k d (Last x))
+keeps-last : (rs : List Region) (q sectors : ℕ) (chain : List ℕ) (k : Walk) (cur : ℕ) (d : Desc) (x : ℕ) → WalkGood rs q chain k → Kept rs q k d x → d .len ≤ 4294967295
+    → 2 * q ≤ length chain → cur < q → Good rs q sectors (keeps chain k d (Last x)) (described k cur d (Last x))
 unfolding keeps described
-keeps-last rs q sectors chain k d x g t s l =
-    keeps-complete rs q sectors (held chain (k .count) x (d .len)) (tally k (d .flags) (d .len)) (keeps-walk rs q chain k d x g t s l)
+keeps-last rs q sectors chain k cur d x g t s l n =
+    keeps-complete rs q sectors (held chain (k .count) x (d .len)) (tally k (d .flags) (d .len)) cur (keeps-walk rs q chain k d x g t s l)
+    (omega (arith, tally-same k (d .flags) (d .len) .1)) n
 
 -- S3
-keeps-chain : (rs : List Region) (q sectors : ℕ) (chain : List ℕ) (k : Walk) (d : Desc) → WalkGood rs q chain k → d .len ≤ 4294967295 → 2 * q ≤ length chain
-    → Good rs q sectors (keeps chain k d (tested rs q k d)) (described k d (tested rs q k d))
+keeps-chain : (rs : List Region) (q sectors : ℕ) (chain : List ℕ) (k : Walk) (cur : ℕ) (d : Desc) → WalkGood rs q chain k → cur < q → d .len ≤ 4294967295 → 2 * q ≤ length chain
+    → Good rs q sectors (keeps chain k d (tested rs q k d)) (described k cur d (tested rs q k d))
 unfolding tested
-keeps-chain rs q sectors chain k d g s l =
+keeps-chain rs q sectors chain k cur d g n s l =
     go (testedBy (leb q (k .count)) (ltb 3 (d .flags)) (eqb (d .len) 0) (locate rs (d .addr) (d .len))
     (both (ltb (d .flags) 2) (ltb (k .reads) (k .count))) (eqb (d .flags % 2) 0) (leb q (d .next))) refl
   where
     go : (t : Tested)
         → testedBy (leb q (k .count)) (ltb 3 (d .flags)) (eqb (d .len) 0) (locate rs (d .addr) (d .len))
         (both (ltb (d .flags) 2) (ltb (k .reads) (k .count))) (eqb (d .flags % 2) 0) (leb q (d .next)) ≡ t
-        → Good rs q sectors (keeps chain k d t) (described k d t)
-    go (Bad r) e = keeps-bad rs q sectors chain k d r g (bad-reason _ _ _ _ _ _ _ r e)
+        → Good rs q sectors (keeps chain k d t) (described k cur d t)
+    go (Bad r) e = keeps-bad rs q sectors chain k cur d r g n (bad-reason _ _ _ _ _ _ _ r e)
     go (Goes x) e =
         let f = kept-next (leb q (k .count)) (ltb 3 (d .flags)) (eqb (d .len) 0) (locate rs (d .addr) (d .len))
         (both (ltb (d .flags) 2) (ltb (k .reads) (k .count))) (eqb (d .flags % 2) 0) (leb q (d .next)) x e in
-        keeps-goes rs q sectors chain k d x g (record { room = leb-false q (k .count) (f .0); placed = f .1; in-order = f .2 }) s l (leb-false q (d .next) (f .3))
+        keeps-goes rs q sectors chain k cur d x g (record { room = leb-false q (k .count) (f .0); placed = f .1; in-order = f .2 }) s l (leb-false q (d .next) (f .3))
     go (Last x) e =
         let f = kept-last (leb q (k .count)) (ltb 3 (d .flags)) (eqb (d .len) 0) (locate rs (d .addr) (d .len))
         (both (ltb (d .flags) 2) (ltb (k .reads) (k .count))) (eqb (d .flags % 2) 0) (leb q (d .next)) x e in
-        keeps-last rs q sectors chain k d x g (record { room = leb-false q (k .count) (f .0); placed = f .1; in-order = f .2 }) s l
+        keeps-last rs q sectors chain k cur d x g (record { room = leb-false q (k .count) (f .0); placed = f .1; in-order = f .2 }) s l n
 
 -- n bytes more of the buffer, and the readable string goes on
 next-onward : (rs : List Region) (q : ℕ) (chain : List ℕ) (k : Walk) (p : Place) (a n : ℕ) → WalkGood rs q chain k → Next chain k p a → n ≤ left chain p .len
@@ -295,9 +293,9 @@ part-bytes k n m f i = go (ltb i n) refl
     go true e = rw (getD-part k n m i (ltb-true i n e)) (f (k + i))
     go false e = rw (List·getD-eq-default (part k n m) 0 {n = i} (short k n m i (ltb-false i n e))) (omega arith)
 
-chain-walk : (rs : List Region) (q sectors : ℕ) (chain : List ℕ) (k : Walk) (cur : ℕ) → Good rs q sectors chain (Chain k cur) → WalkGood rs q chain k
+chain-walk : (rs : List Region) (q sectors : ℕ) (chain : List ℕ) (k : Walk) (cur : ℕ) → Good rs q sectors chain (Chain k cur) → WalkGood rs q chain k × (cur < q)
 unfolding Good
-chain-walk rs q sectors chain k cur g = g .0
+chain-walk rs q sectors chain k cur g = g
 
 -- a length of four bytes
 desc-short : (f : List ℕ) → ((i : ℕ) → getD f i 0 < 256) → descAt 0 f .len ≤ 4294967295
@@ -319,21 +317,22 @@ unfolding Good
 keeps-publish rs q sectors chain = tt
 
 -- one step of the model
-pub keeps-next : (c : Cfg) (t a : ℕ) (mem chain stage : List ℕ) (p : Phase) → ((i : ℕ) → getD mem i 0 < 256) → 1 ≤ c .queue .size → 2 * c .queue .size ≤ length chain
+pub keeps-next : (c : Cfg) (t a n : ℕ) (mem chain stage : List ℕ) (p : Phase) → ((i : ℕ) → getD mem i 0 < 256) → 1 ≤ c .queue .size → 2 * c .queue .size ≤ length chain
     → Good (c .map) (c .queue .size) (c .disk .sectors) chain p
-    → Good (c .map) (c .queue .size) (c .disk .sectors) (chained c chain p (fetched c (stateOf t a p) chain mem)) (next c t chain stage p (fetched c (stateOf t a p) chain mem))
+    → Good (c .map) (c .queue .size) (c .disk .sectors) (chained c chain p (fetched c (stateOf t a n p) chain mem)) (next c t chain stage p (fetched c (stateOf t a n p) chain mem))
 unfolding next chained
-keeps-next c t a mem chain stage Poll b h l g = keeps-poll (c .map) (c .queue .size) (c .disk .sectors) chain t (word 2 0 (fetched c (stateOf t a Poll) chain mem)) h
-keeps-next c t a mem chain stage Entry b h l g = keeps-entry (c .map) (c .queue .size) (c .disk .sectors) chain (word 2 0 (fetched c (stateOf t a Entry) chain mem)) h
-keeps-next c t a mem chain stage (Chain k cur) b h l g =
-    let f = fetched c (stateOf t a (Chain k cur)) chain mem in
+keeps-next c t a n mem chain stage Poll b h l g = keeps-poll (c .map) (c .queue .size) (c .disk .sectors) chain t (word 2 0 (fetched c (stateOf t a n Poll) chain mem)) h
+keeps-next c t a n mem chain stage Entry b h l g = keeps-entry (c .map) (c .queue .size) (c .disk .sectors) chain (word 2 0 (fetched c (stateOf t a n Entry) chain mem)) h
+keeps-next c t a n mem chain stage (Chain k cur) b h l g =
+    let f = fetched c (stateOf t a n (Chain k cur)) chain mem in
     let w = want c t chain (Chain k cur) in
-    keeps-chain (c .map) (c .queue .size) (c .disk .sectors) chain k (descAt 0 f) (chain-walk (c .map) (c .queue .size) (c .disk .sectors) chain k cur g)
+    keeps-chain (c .map) (c .queue .size) (c .disk .sectors) chain k cur (descAt 0 f) (chain-walk (c .map) (c .queue .size) (c .disk .sectors) chain k cur g .0)
+    (chain-walk (c .map) (c .queue .size) (c .disk .sectors) chain k cur g .1)
     (desc-short f (part-bytes (w .at) (w .len) mem b)) l
-keeps-next c t a mem chain stage (Header k p got) b h l g =
-    let f = fetched c (stateOf t a (Header k p got)) chain mem in
+keeps-next c t a n mem chain stage (Header k p got) b h l g =
+    let f = fetched c (stateOf t a n (Header k p got)) chain mem in
     keeps-header-all (c .map) (c .queue .size) (c .disk) chain k p got (word 4 0 (put stage got f)) (word 8 8 (put stage got f)) g
-keeps-next c t a mem chain stage (Payload k p s got) b h l g = keeps-payload (c .map) (c .queue .size) (c .disk .sectors) chain k p s got g
-keeps-next c t a mem chain stage (Answer k job got) b h l g = keeps-answer (c .map) (c .queue .size) (c .disk .sectors) chain k job got g
-keeps-next c t a mem chain stage (Publish k got) b h l g = keeps-publish (c .map) (c .queue .size) (c .disk .sectors) chain
-keeps-next c t a mem chain stage (Broken reason head count) b h l g = g
+keeps-next c t a n mem chain stage (Payload k p s got) b h l g = keeps-payload (c .map) (c .queue .size) (c .disk .sectors) chain k p s got g
+keeps-next c t a n mem chain stage (Answer k job got) b h l g = keeps-answer (c .map) (c .queue .size) (c .disk .sectors) chain k job got g
+keeps-next c t a n mem chain stage (Publish k got) b h l g = keeps-publish (c .map) (c .queue .size) (c .disk .sectors) chain
+keeps-next c t a n mem chain stage (Broken reason head count at) b h l g = g

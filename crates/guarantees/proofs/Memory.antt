@@ -83,7 +83,7 @@ in-slice s mem backing chain stage (Payload k p sector got) f =
     omega (arith, g .buffer-in, g .skip-in)
 in-slice s mem backing chain stage (Answer k job got) f = omega arith
 in-slice s mem backing chain stage (Publish k got) f = omega arith
-in-slice s mem backing chain stage (Broken reason head count) f = omega arith
+in-slice s mem backing chain stage (Broken reason head count at) f = omega arith
 
 pub wanted-in : (s mem backing chain stage : List ℕ) → Going s (phaseOf (rowAt s)) (length mem) (length backing) chain (length stage)
     → wanted s chain .at + wanted s chain .len ≤ length mem
@@ -154,7 +154,7 @@ publish-apart at n i c = rw (length-bytes 2 n) (c .0)
 
 wall-phase : (s mem backing chain stage : List ℕ) (p : Phase) (i : ℕ) → Fit (configAt s) (getD s 40 0) (getD s 41 0) p (mapWords s) (length mem) (length backing) chain (length stage)
     → Clear i (touched (configAt s .queue) (getD s 41 0) chain p)
-    → getD (step (cfgOf (configAt s) (mapWords s)) (stateOf (getD s 40 0) (getD s 41 0) p) mem backing chain stage .mem) i 0 ≡ getD mem i 0
+    → getD (step (cfgOf (configAt s) (mapWords s)) (stateOf (getD s 40 0) (getD s 41 0) (getD s 52 0) p) mem backing chain stage .mem) i 0 ≡ getD mem i 0
 unfolding touched step stepWith effect memStores apply
 wall-phase s mem backing chain stage Poll i f c = refl
 wall-phase s mem backing chain stage Entry i f c = refl
@@ -164,14 +164,14 @@ wall-phase s mem backing chain stage (Payload k p sector got) i f c =
     let o = cfgOf (configAt s) (mapWords s) in
     ap (λ (m : List ℕ). getD m i 0)
     (quiet-paid (ends k got (left chain p .len)) (512 * sector)
-    (part 0 got stage ++ fetched o (stateOf (getD s 40 0) (getD s 41 0) (Payload k p sector got)) chain mem) o (getD s 41 0) chain (diskOf (configAt s .disk) backing) mem)
+    (part 0 got stage ++ fetched o (stateOf (getD s 40 0) (getD s 41 0) (getD s 52 0) (Payload k p sector got)) chain mem) o (getD s 41 0) chain (diskOf (configAt s .disk) backing) mem)
 wall-phase s mem backing chain stage (Answer k job got) i f c =
     let o = cfgOf (configAt s) (mapWords s) in
     let g = answer-fit (configAt s) (getD s 40 0) (getD s 41 0) (mapWords s) (length mem) (length backing) chain (length stage) k job got f in
     apply-clear (answerStores (o .id) (o .queue) (getD s 41 0) chain (diskOf (configAt s .disk) backing) k job) mem i
     (answer-misses (o .id) (o .queue) (getD s 41 0) chain (diskOf (configAt s .disk) backing) k job i (g .writable) (g .last-some) c)
 wall-phase s mem backing chain stage (Publish k got) i f c = put-apart mem (configAt s .queue .used + 2) (bytes 2 (oneMore (getD s 41 0))) i (publish-apart (configAt s .queue .used + 2) (oneMore (getD s 41 0)) i c)
-wall-phase s mem backing chain stage (Broken reason head count) i f c = refl
+wall-phase s mem backing chain stage (Broken reason head count at) i f c = refl
 
 pub walls-memory : (s mem backing chain stage : List ℕ) (i : ℕ) → Clear i (touched (configAt s .queue) (getD s 41 0) chain (phaseOf (rowAt s)))
     → getD (hdStep s mem backing chain stage .mem) i 0 ≡ getD mem i 0
@@ -190,7 +190,7 @@ after-low (Header k p got) = omega arith
 after-low (Payload k p s got) = omega arith
 after-low (Answer k job got) = omega arith
 after-low (Publish k got) = omega arith
-after-low (Broken reason head count) = omega arith
+after-low (Broken reason head count at) = omega arith
 
 code-low : (e : Effect) (p : Phase) → codeOf e p < 4
 unfolding codeOf
@@ -205,11 +205,11 @@ unfolding steppedOn stepped step stepWith
 refused-untouched s mem backing chain stage =
     let p = phaseOf (rowAt s) in
     let c = cfgOf (configAt s) (mapWords s) in
-    let f = fetched c (stateOf (getD s 40 0) (getD s 41 0) p) chain mem in
+    let f = fetched c (stateOf (getD s 40 0) (getD s 41 0) (getD s 52 0) p) chain mem in
     by-step (λ (o : Called). o .code ≡ 4 → o ≡ untouched 4 s mem backing chain stage) s mem backing chain stage (λ n e. rw e)
     (λ g e. absurd (omega (arith, code-low (effect chain stage p f) (next c (getD s 40 0) chain stage p f), e)))
 
-pub broken-untouched : (s mem backing chain stage : List ℕ) (reason head count : ℕ) → 52 ≤ length s → level s ≡ 3
-    → phaseOf (rowAt s) ≡ Broken reason head count → hdStep s mem backing chain stage ≡ untouched 3 s mem backing chain stage
+pub broken-untouched : (s mem backing chain stage : List ℕ) (reason head count at : ℕ) → stateWords ≤ length s → level s ≡ 3
+    → phaseOf (rowAt s) ≡ Broken reason head count at → hdStep s mem backing chain stage ≡ untouched 3 s mem backing chain stage
 unfolding hdStep isBroken
-broken-untouched s mem backing chain stage reason head count l h e = rw (le-ltb (length s) 52 l, eq-eqb (level s) 3 h, e)
+broken-untouched s mem backing chain stage reason head count at l h e = rw (le-ltb (length s) stateWords l, eq-eqb (level s) 3 h, e)

@@ -25,15 +25,15 @@ use Rattle.model.specs.declared.Job.the-variants.{Failed, Unsupported, Done, Re
 use Rattle.model.specs.declared.Phase.{Phase}
 use Rattle.model.specs.declared.Phase.the-variants.{Poll, Entry, Chain, Header, Payload, Answer, Publish, Broken}
 
-open-complete : (ro : ℕ) (k : Walk) → Open ro (complete k)
+open-complete : (ro : ℕ) (k : Walk) (cur : ℕ) → Open ro (complete k cur)
 unfolding complete Open
-open-complete ro k = on (Open ro) (leb (k .count) (k .reads)) (λ e. tt) (λ e. on (Open ro) (ltb (k .r) 16) (λ f. tt) (λ f. tt))
+open-complete ro k cur = on (Open ro) (leb (k .count) (k .reads)) (λ e. tt) (λ e. on (Open ro) (ltb (k .r) 16) (λ f. tt) (λ f. tt))
 
-open-chain : (ro : ℕ) (k : Walk) (d : Desc) (t : Tested) → Open ro (described k d t)
+open-chain : (ro : ℕ) (k : Walk) (cur : ℕ) (d : Desc) (t : Tested) → Open ro (described k cur d t)
 unfolding described Open
-open-chain ro k d (Bad n) = tt
-open-chain ro k d (Next x) = tt
-open-chain ro k d (Last x) = open-complete ro (tally k (d .flags) (d .len))
+open-chain ro k cur d (Bad n) = tt
+open-chain ro k cur d (Next x) = tt
+open-chain ro k cur d (Last x) = open-complete ro (tally k (d .flags) (d .len)) cur
 
 open-decided : (d : Disk) (k : Walk) (p : Place) (type sector : ℕ) → Open (d .ro) (decided k p (verdict d type sector (k .r) (k .w)))
 unfolding verdict decided Open inOk outOk exactly
@@ -55,7 +55,7 @@ unfolding next polled headed gathered paid Open
 keeps-open c t chain stage Poll f o =
     on (Open (c .disk .ro)) (eqb (pending (word 2 0 f) t) 0) (λ e. tt) (λ e. on (Open (c .disk .ro)) (ltb (c .queue .size) (pending (word 2 0 f) t)) (λ e. tt) (λ e. tt))
 keeps-open c t chain stage Entry f o = on (Open (c .disk .ro)) (leb (c .queue .size) (word 2 0 f)) (λ e. tt) (λ e. tt)
-keeps-open c t chain stage (Chain k cur) f o = open-chain (c .disk .ro) k (descAt 0 f) (tested (c .map) (c .queue .size) k (descAt 0 f))
+keeps-open c t chain stage (Chain k cur) f o = open-chain (c .disk .ro) k cur (descAt 0 f) (tested (c .map) (c .queue .size) k (descAt 0 f))
 keeps-open c t chain stage (Header k p got) f o =
     let l = left chain p .len in
     on (Open (c .disk .ro)) (ltb (got + lacks got l) 16) (λ e. tt)
@@ -63,7 +63,7 @@ keeps-open c t chain stage (Header k p got) f o =
 keeps-open c t chain stage (Payload k p s got) f o = on (Open (c .disk .ro)) (ends k got (left chain p .len)) (λ e. tt) (λ e. o)
 keeps-open c t chain stage (Answer k job got) f o = tt
 keeps-open c t chain stage (Publish k got) f o = tt
-keeps-open c t chain stage (Broken reason head count) f o = tt
+keeps-open c t chain stage (Broken reason head count at) f o = tt
 
 -- on a read-only disk no step stores
 pub locked : (ro : ℕ) (chain stage f : List ℕ) (p : Phase) → (ro ≡ 0 → ⊥) → Open ro p → diskStores (effect chain stage p f) ≡ []
@@ -75,4 +75,4 @@ locked ro chain stage f (Header k p got) n o = refl
 locked ro chain stage f (Payload k p s got) n o = absurd (n o)
 locked ro chain stage f (Answer k job got) n o = refl
 locked ro chain stage f (Publish k got) n o = refl
-locked ro chain stage f (Broken reason head count) n o = refl
+locked ro chain stage f (Broken reason head count at) n o = refl

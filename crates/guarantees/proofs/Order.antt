@@ -13,12 +13,12 @@ use Rattle.model.specs.Bytes.{put, part, word, bytes}
 use Rattle.model.specs.Ring.{polled, headed, pending, oneMore}
 use Rattle.model.specs.Chain.{descAt, tested, tally, complete, described}
 use Rattle.model.specs.Request.{verdict, decided, status, reported}
-use Rattle.model.specs.Step.{Cfg, Effect, nothing, stores, answers, publishes, left, lacks, ends, onward, gathered, paid, next, effect, codeOf, codeAfter, counted, fetched, step, stepWith, apply, scatter, writables, handed, statusAt, usedAt, answerStores, memStores, diskOf}
+use Rattle.model.specs.Step.{Cfg, Effect, nothing, stores, answers, publishes, left, lacks, ends, onward, gathered, paid, next, effect, codeOf, codeAfter, counted, fetched, measured, step, stepWith, apply, scatter, writables, handed, statusAt, usedAt, answerStores, memStores, diskOf}
 use Rattle.model.proofs.Tests.{on}
 use Rattle.model.proofs.Lists.{length-put, part-put}
 use Rattle.model.proofs.Words.{length-bytes}
 use Rattle.model.proofs.Step.{apply-append, length-apply}
-use Rattle.words.specs.Layout.{rowAt, phaseOf, configAt, mapWords, saved, level}
+use Rattle.words.specs.Layout.{stateWords, rowAt, phaseOf, configAt, mapWords, saved, level}
 use Rattle.words.proofs.Saved.{phase-saved, taken-saved, answered-saved}
 use Rattle.device.specs.Turn.{cfgOf, stateOf}
 use Rattle.hostiledisk.specs.Calls.{Called, stepped, steppedOn, Going, hdStep}
@@ -47,19 +47,19 @@ publishing (Header k p got) = false
 publishing (Payload k p s got) = false
 publishing (Answer k job got) = false
 publishing (Publish k got) = true
-publishing (Broken reason head count) = false
+publishing (Broken reason head count at) = false
 
-not-complete : (k : Walk) → publishing (complete k) ≡ false
+not-complete : (k : Walk) (cur : ℕ) → publishing (complete k cur) ≡ false
 unfolding complete publishing
-not-complete k =
+not-complete k cur =
     let P : Phase → Type 0 = λ p. publishing p ≡ false in
     on P (leb (k .count) (k .reads)) (λ e. refl) (λ e. on P (ltb (k .r) 16) (λ f. refl) (λ f. refl))
 
-not-described : (k : Walk) (d : Desc) (t : Tested) → publishing (described k d t) ≡ false
+not-described : (k : Walk) (cur : ℕ) (d : Desc) (t : Tested) → publishing (described k cur d t) ≡ false
 unfolding described publishing
-not-described k d (Bad n) = refl
-not-described k d (Next x) = refl
-not-described k d (Last x) = not-complete (tally k (d .flags) (d .len))
+not-described k cur d (Bad n) = refl
+not-described k cur d (Next x) = refl
+not-described k cur d (Last x) = not-complete (tally k (d .flags) (d .len)) cur
 
 not-decided : (k : Walk) (p : Place) (job : Job) → publishing (decided k p job) ≡ false
 unfolding decided publishing
@@ -83,7 +83,7 @@ after-answer c t chain stage Poll f k got e =
 after-answer c t chain stage Entry f k got e =
     differ (headed (c .queue .size) (word 2 0 f)) k got (on (λ (p : Phase). publishing p ≡ false) (leb (c .queue .size) (word 2 0 f)) (λ e. refl) (λ e. refl)) e
 after-answer c t chain stage (Chain j cur) f k got e =
-    differ (described j (descAt 0 f) (tested (c .map) (c .queue .size) j (descAt 0 f))) k got (not-described j (descAt 0 f) (tested (c .map) (c .queue .size) j (descAt 0 f))) e
+    differ (described j cur (descAt 0 f) (tested (c .map) (c .queue .size) j (descAt 0 f))) k got (not-described j cur (descAt 0 f) (tested (c .map) (c .queue .size) j (descAt 0 f))) e
 after-answer c t chain stage (Header j p g) f k got e =
     let l = left chain p .len in
     differ (gathered (c .disk) j p g l (lacks g l) (word 4 0 (put stage g f)) (word 8 8 (put stage g f))) k got
@@ -93,7 +93,7 @@ after-answer c t chain stage (Payload j p s g) f k got e =
     differ (paid j p s g (left chain p .len)) k got (on (λ (p : Phase). publishing p ≡ false) (ends j g (left chain p .len)) (λ e. refl) (λ e. refl)) e
 after-answer c t chain stage (Answer j job g) f k got e = record { job = job; is = cc }
 after-answer c t chain stage (Publish j g) f k got e = differ Poll k got refl e
-after-answer c t chain stage (Broken reason head count) f k got e = differ (Broken reason head count) k got refl e
+after-answer c t chain stage (Broken reason head count at) f k got e = differ (Broken reason head count at) k got refl e
 
 -- S6 leaves the used entry in place: it is the last thing that it writes
 entry-last : (id : List ℕ) (q : Queue) (a : ℕ) (chain disk mem : List ℕ) (k : Walk) (job : Job) → usedAt q a + 8 ≤ length mem
@@ -122,11 +122,12 @@ unfolding steppedOn stepped step stepWith
 order s mem backing chain stage k got g e =
     let p = phaseOf (rowAt s) in
     let c = cfgOf (configAt s) (mapWords s) in
-    let f = fetched c (stateOf (getD s 40 0) (getD s 41 0) p) chain mem in
+    let f = fetched c (stateOf (getD s 40 0) (getD s 41 0) (getD s 52 0) p) chain mem in
     let q = next c (getD s 40 0) chain stage p f in
     let t = counted (effect chain stage p f) (getD s 40 0) in
     let a = counted (effect chain stage p f) (getD s 41 0) in
-    let j = after-answer c (getD s 40 0) chain stage p f k got (sym (phase-saved s t a q (g .words-long)) ∙ e) in
+    let n = measured c (getD s 52 0) p f in
+    let j = after-answer c (getD s 40 0) chain stage p f k got (sym (phase-saved s t a n q (g .words-long)) ∙ e) in
     let x = fit-of s p (length mem) (length backing) chain (length stage) g in
     (j, entry-step s mem backing chain stage k (j .job) got (j .is) (omega (arith, x .used-in, x .mem-long, mod-lt (getD s 41 0) (x .size-some))))
 
@@ -140,7 +141,7 @@ after-not-two (Header k p got) e = omega arith
 after-not-two (Payload k p s got) e = omega arith
 after-not-two (Answer k job got) e = omega arith
 after-not-two (Publish k got) e = omega arith
-after-not-two (Broken reason head count) e = omega arith
+after-not-two (Broken reason head count at) e = omega arith
 
 counts : (e : Effect) (p : Phase) (n : ℕ) → counted e n ≡ pick (eqb (codeOf e p) 2) (oneMore n) n
 unfolding counted codeOf
@@ -154,17 +155,17 @@ pub record Counted (s : List ℕ) (o : Called) : Type 0 where
   pub taken-is : getD (o .state) 40 0 ≡ pick (eqb (o .code) 2) (oneMore (getD s 40 0)) (getD s 40 0)
   pub answered-is : getD (o .state) 41 0 ≡ pick (eqb (o .code) 2) (oneMore (getD s 41 0)) (getD s 41 0)
 
-counted-stepped : (s mem backing chain stage : List ℕ) → 52 ≤ length s → Counted s (steppedOn s mem backing chain stage)
+counted-stepped : (s mem backing chain stage : List ℕ) → stateWords ≤ length s → Counted s (steppedOn s mem backing chain stage)
 unfolding steppedOn stepped step stepWith
 counted-stepped s mem backing chain stage l =
     let p = phaseOf (rowAt s) in
     let c = cfgOf (configAt s) (mapWords s) in
-    let f = fetched c (stateOf (getD s 40 0) (getD s 41 0) p) chain mem in
+    let f = fetched c (stateOf (getD s 40 0) (getD s 41 0) (getD s 52 0) p) chain mem in
     let q = next c (getD s 40 0) chain stage p f in
     let e = effect chain stage p f in
     record {
-      taken-is = taken-saved s (counted e (getD s 40 0)) (counted e (getD s 41 0)) q l ∙ counts e q (getD s 40 0);
-      answered-is = answered-saved s (counted e (getD s 40 0)) (counted e (getD s 41 0)) q l ∙ counts e q (getD s 41 0);
+      taken-is = taken-saved s (counted e (getD s 40 0)) (counted e (getD s 41 0)) (measured c (getD s 52 0) p f) q l ∙ counts e q (getD s 40 0);
+      answered-is = answered-saved s (counted e (getD s 40 0)) (counted e (getD s 41 0)) (measured c (getD s 52 0) p f) q l ∙ counts e q (getD s 41 0);
     }
 
 pub counters-step : (s mem backing chain stage : List ℕ) → Counted s (hdStep s mem backing chain stage)

@@ -14,14 +14,14 @@ use Rattle.model.specs.Memory.{Region, regions, locate, memoryCode}
 use Rattle.model.specs.Ring.{areas, placed, sizeOk, aligned, entangled}
 use Rattle.model.specs.Request.{diskCode}
 use Rattle.model.specs.Sane.{ready}
-use Rattle.model.specs.Step.{Cfg, State, next, chained, fetched, step, stepWith, counted, effect}
+use Rattle.model.specs.Step.{Cfg, State, next, chained, measured, fetched, step, stepWith, counted, effect}
 use Rattle.model.proofs.Tests.{on}
 use Rattle.model.proofs.Lists.{Apart, below, above, Disjoint, first, after, put-below, put-in, put-one, length-put, part-put-other}
 use Rattle.model.proofs.Memory.{InOne, locate-in}
 use Rattle.words.specs.Layout.{stateWords, rowOf, rowWords, rowAt, phaseOf, saved, configAt, mapWords, memoryOk, diskOk, enabledOk, level}
 use Rattle.words.proofs.Saved.{phase-saved, phase-again, taken-saved, answered-saved, others-saved, length-saved}
 use Rattle.device.specs.Turn.{cfgOf, stateOf}
-use Rattle.hostiledisk.specs.Calls.{Set, Called, told, flag, hdMemory, hdDisk, diskSet, queueSet, enabledWith, hdEnableAt, hdReset, hdStep, untouched, stepped, steppedOn, Going}
+use Rattle.hostiledisk.specs.Calls.{Set, Called, told, flag, hdMemory, hdDisk, diskSet, queueWords, queueSet, enabledWith, hdEnableAt, hdReset, hdStep, untouched, stepped, steppedOn, Going}
 use Rattle.hostiledisk.proofs.Laws.{level-two, level-three, memory-ok, fit-of}
 use Rattle.guarantees.specs.History.{Call, memory, disk, enable, reset, step as stepOver, World, ran, left, run, BytesNow, Bytes}
 use Rattle.guarantees.specs.Good.{Good, Open, Area, Made}
@@ -38,24 +38,24 @@ use Rattle.model.specs.declared.Phase.{Phase}
 use Rattle.model.specs.declared.Phase.the-variants.{Poll}
 
 -- the words that set-up wrote are the same after a step
-pub part-saved : (s : List ℕ) (t a : ℕ) (p : Phase) (n : ℕ) → 3 + n ≤ 40 → part 3 n (saved s t a p) ≡ part 3 n s
+pub part-saved : (s : List ℕ) (t a n : ℕ) (p : Phase) (k : ℕ) → 3 + k ≤ 40 → part 3 k (saved s t a n p) ≡ part 3 k s
 unfolding saved
-part-saved s t a p n l = part-put-other s 3 n 40 (t ∷ a ∷ rowWords (rowOf p)) (first l)
+part-saved s t a n p k l = part-put-other s 3 k 40 (t ∷ a ∷ (rowWords (rowOf p) ++ (n ∷ []))) (first l)
 
-pub map-saved : (s : List ℕ) (t a : ℕ) (p : Phase) → getD s 2 0 ≤ 8 → mapWords (saved s t a p) ≡ mapWords s
-map-saved s t a p h = rw (others-saved s t a p 2 (below (omega arith))) (part-saved s t a p (3 * getD s 2 0) (omega arith))
+pub map-saved : (s : List ℕ) (t a n : ℕ) (p : Phase) → getD s 2 0 ≤ 8 → mapWords (saved s t a n p) ≡ mapWords s
+map-saved s t a n p h = rw (others-saved s t a n p 2 (below (omega arith))) (part-saved s t a n p (3 * getD s 2 0) (omega arith))
 
 -- a step of the words that were made
-made-saved : (s : List ℕ) (t a : ℕ) (p : Phase) (chain chain₂ : List ℕ) → 52 ≤ length s → getD s 2 0 ≤ 8 → Made s chain
-    → Good (regions (mapWords s)) (getD s 34 0) (getD s 28 0) chain₂ p → Open (getD s 29 0) p → Made (saved s t a p) chain₂
-made-saved s t a p chain chain₂ l h m g o =
-    let w : (i : ℕ) → i < 40 → getD (saved s t a p) i 0 ≡ getD s i 0 = λ i u. others-saved s t a p i (below u) in
+made-saved : (s : List ℕ) (t a n : ℕ) (p : Phase) (chain chain₂ : List ℕ) → stateWords ≤ length s → getD s 2 0 ≤ 8 → Made s chain
+    → Good (regions (mapWords s)) (getD s 34 0) (getD s 28 0) chain₂ p → Open (getD s 29 0) p → Made (saved s t a n p) chain₂
+made-saved s t a n p chain chain₂ l h m g o =
+    let w : (i : ℕ) → i < 40 → getD (saved s t a n p) i 0 ≡ getD s i 0 = λ i u. others-saved s t a n p i (below u) in
     record {
-      desc-area = rw (map-saved s t a p h, w 34 (omega arith), w 35 (omega arith)) (m .desc-area);
-      avail-area = rw (map-saved s t a p h, w 34 (omega arith), w 36 (omega arith)) (m .avail-area);
-      used-area = rw (map-saved s t a p h, w 34 (omega arith), w 37 (omega arith)) (m .used-area);
-      good = rw (map-saved s t a p h, w 34 (omega arith), w 28 (omega arith), phase-saved s t a p l) g;
-      open-disk = rw (w 29 (omega arith), phase-saved s t a p l) o;
+      desc-area = rw (map-saved s t a n p h, w 34 (omega arith), w 35 (omega arith)) (m .desc-area);
+      avail-area = rw (map-saved s t a n p h, w 34 (omega arith), w 36 (omega arith)) (m .avail-area);
+      used-area = rw (map-saved s t a n p h, w 34 (omega arith), w 37 (omega arith)) (m .used-area);
+      good = rw (map-saved s t a n p h, w 34 (omega arith), w 28 (omega arith), phase-saved s t a n p l) g;
+      open-disk = rw (w 29 (omega arith), phase-saved s t a n p l) o;
     }
 
 pub made-step : (s mem backing chain stage : List ℕ) → ((i : ℕ) → getD mem i 0 < 256) → Going s (phaseOf (rowAt s)) (length mem) (length backing) chain (length stage) → Made s chain
@@ -64,11 +64,11 @@ unfolding steppedOn stepped step stepWith configAt
 made-step s mem backing chain stage b g m =
     let p = phaseOf (rowAt s) in
     let c = cfgOf (configAt s) (mapWords s) in
-    let f = fetched c (stateOf (getD s 40 0) (getD s 41 0) p) chain mem in
+    let f = fetched c (stateOf (getD s 40 0) (getD s 41 0) (getD s 52 0) p) chain mem in
     let x = fit-of s p (length mem) (length backing) chain (length stage) g in
-    made-saved s (counted (effect chain stage p f) (getD s 40 0)) (counted (effect chain stage p f) (getD s 41 0)) (next c (getD s 40 0) chain stage p f) chain (chained c chain p f)
+    made-saved s (counted (effect chain stage p f) (getD s 40 0)) (counted (effect chain stage p f) (getD s 41 0)) (measured c (getD s 52 0) p f) (next c (getD s 40 0) chain stage p f) chain (chained c chain p f)
     (g .words-long) (level-three s (g .enabled) .memory .few) m
-    (keeps-next c (getD s 40 0) (getD s 41 0) mem chain stage p b (x .size-some) (x .chain-long) (m .good))
+    (keeps-next c (getD s 40 0) (getD s 41 0) (getD s 52 0) mem chain stage p b (x .size-some) (x .chain-long) (m .good))
     (keeps-open c (getD s 40 0) chain stage p f (m .open-disk))
 
 -- the tower of `level` answers 3 only where word 0 is 3
@@ -110,38 +110,38 @@ areas-placed rs size desc avail used q h =
         )
 
 -- the words after enabling
-pub queue-word : (s : List ℕ) (q : Queue) (chain stage start : ℕ) (j : ℕ) → 52 ≤ length s → j < 18
-    → getD (queueSet s q chain stage start) (34 + j) 0 ≡ getD (q .size ∷ q .desc ∷ q .avail ∷ q .used ∷ chain ∷ stage ∷ start ∷ start ∷ rowWords (rowOf Poll)) j 0
+pub queue-word : (s : List ℕ) (q : Queue) (chain stage start : ℕ) (j : ℕ) → stateWords ≤ length s → j < 19
+    → getD (queueSet s q chain stage start) (34 + j) 0 ≡ getD (queueWords q chain stage start) j 0
 unfolding queueSet rowWords
 queue-word s q chain stage start j l h =
-    put-in (set s 0 3) 34 (q .size ∷ q .desc ∷ q .avail ∷ q .used ∷ chain ∷ stage ∷ start ∷ start ∷ rowWords (rowOf Poll)) j h (rw (length-set s 0 3) (omega arith))
+    put-in (set s 0 3) 34 (queueWords q chain stage start) j h (rw (length-set s 0 3) (omega arith))
 
 pub queue-other : (s : List ℕ) (q : Queue) (chain stage start : ℕ) (i : ℕ) → 0 < i → i < 34 → getD (queueSet s q chain stage start) i 0 ≡ getD s i 0
 unfolding queueSet
 queue-other s q chain stage start i h l =
-    put-below (set s 0 3) 34 (q .size ∷ q .desc ∷ q .avail ∷ q .used ∷ chain ∷ stage ∷ start ∷ start ∷ rowWords (rowOf Poll)) i l
+    put-below (set s 0 3) 34 (queueWords q chain stage start) i l
     ∙ getD-set-other s 0 i 3 0 (λ e. omega arith)
 
 pub queue-part : (s : List ℕ) (q : Queue) (chain stage start n : ℕ) → 3 + n ≤ 34 → part 3 n (queueSet s q chain stage start) ≡ part 3 n s
 unfolding queueSet
 queue-part s q chain stage start n h =
-    part-put-other (set s 0 3) 3 n 34 (q .size ∷ q .desc ∷ q .avail ∷ q .used ∷ chain ∷ stage ∷ start ∷ start ∷ rowWords (rowOf Poll)) (first h)
+    part-put-other (set s 0 3) 3 n 34 (queueWords q chain stage start) (first h)
     ∙ (ap (part 3 n) (sym (put-one s 0 3)) ∙ part-put-other s 3 n 0 (3 ∷ []) (after (omega arith)))
 
 queue-map : (s : List ℕ) (q : Queue) (chain stage start : ℕ) → getD s 2 0 ≤ 8 → mapWords (queueSet s q chain stage start) ≡ mapWords s
 queue-map s q chain stage start h = rw (queue-other s q chain stage start 2 (omega arith) (omega arith)) (queue-part s q chain stage start (3 * getD s 2 0) (omega arith))
 
-pub queue-phase : (s : List ℕ) (q : Queue) (chain stage start : ℕ) → 52 ≤ length s → phaseOf (rowAt (queueSet s q chain stage start)) ≡ Poll
+pub queue-phase : (s : List ℕ) (q : Queue) (chain stage start : ℕ) → stateWords ≤ length s → phaseOf (rowAt (queueSet s q chain stage start)) ≡ Poll
 unfolding rowAt rowWords rowOf phaseOf
 queue-phase s q chain stage start l =
     rw (queue-word s q chain stage start 8 l (omega arith))
 
-made-enable : (s : List ℕ) (q : Queue) (chain stage start : ℕ) (held : List ℕ) → 52 ≤ length s → getD s 2 0 ≤ 8
+made-enable : (s : List ℕ) (q : Queue) (chain stage start : ℕ) (held : List ℕ) → stateWords ≤ length s → getD s 2 0 ≤ 8
     → Area (regions (mapWords s)) (q .desc) (16 * q .size) × Area (regions (mapWords s)) (q .avail) (6 + 2 * q .size) × Area (regions (mapWords s)) (q .used) (6 + 8 * q .size)
     → Made (queueSet s q chain stage start) held
 unfolding Good Open rowWords
 made-enable s q chain stage start held l h a =
-    let w : (j : ℕ) → j < 18 → getD (queueSet s q chain stage start) (34 + j) 0 ≡ getD (q .size ∷ q .desc ∷ q .avail ∷ q .used ∷ chain ∷ stage ∷ start ∷ start ∷ rowWords (rowOf Poll)) j 0 =
+    let w : (j : ℕ) → j < 19 → getD (queueSet s q chain stage start) (34 + j) 0 ≡ getD (queueWords q chain stage start) j 0 =
     λ j u. queue-word s q chain stage start j l u in
     record {
       desc-area = rw (queue-map s q chain stage start h, w 0 (omega arith), w 1 (omega arith)) (a .0);
@@ -153,79 +153,79 @@ made-enable s q chain stage start held l h a =
 
 -- if the queue is enabled, set-up and steps made it so
 abbrev pub Kept : World → Type 0
-Kept w = 52 ≤ length (w .state) → level (w .state) ≡ 3 → Made (w .state) (w .chain)
+Kept w = stateWords ≤ length (w .state) → level (w .state) ≡ 3 → Made (w .state) (w .chain)
 
 -- words whose first is not 3 are no enabled queue
-not-three : (s chain : List ℕ) (n : ℕ) → getD s 0 0 ≡ n → (n ≡ 3 → ⊥) → 52 ≤ length s → level s ≡ 3 → Made s chain
+not-three : (s chain : List ℕ) (n : ℕ) → getD s 0 0 ≡ n → (n ≡ 3 → ⊥) → stateWords ≤ length s → level s ≡ 3 → Made s chain
 not-three s chain n e f l h = absurd (f (sym e ∙ level-tag s h))
 
 pub disk-tag : (s : List ℕ) (start sectors ro : ℕ) (id : List ℕ) (b : ℕ) → 0 < length s → getD (diskSet s start sectors ro id b) 0 0 ≡ 2
 unfolding diskSet
 disk-tag s start sectors ro id b h = put-below (set s 0 2) 27 _ 0 (omega arith) ∙ getD-set-same s 0 2 0 h
 
-kept-memory : (s chain ws : List ℕ) (m : ℕ) → (52 ≤ length s → level s ≡ 3 → Made s chain)
-    → 52 ≤ length (hdMemory s ws m .state) → level (hdMemory s ws m .state) ≡ 3 → Made (hdMemory s ws m .state) chain
+kept-memory : (s chain ws : List ℕ) (m : ℕ) → (stateWords ≤ length s → level s ≡ 3 → Made s chain)
+    → stateWords ≤ length (hdMemory s ws m .state) → level (hdMemory s ws m .state) ≡ 3 → Made (hdMemory s ws m .state) chain
 unfolding hdMemory
 kept-memory s chain ws m k =
-    let P : Set → Type 0 = λ x. 52 ≤ length (x .state) → level (x .state) ≡ 3 → Made (x .state) chain in
+    let P : Set → Type 0 = λ x. stateWords ≤ length (x .state) → level (x .state) ≡ 3 → Made (x .state) chain in
     on P (ltb (length s) stateWords) (λ e. k)
     (λ e. on P (eqb (memoryCode m ws) 0)
     (λ f l h. not-three (put s 0 (1 ∷ m ∷ length ws / 3 ∷ ws)) chain 1
-    (put-in s 0 (1 ∷ m ∷ length ws / 3 ∷ ws) 0 (omega arith) (omega (arith, ltb-false (length s) 52 e))) (λ z. omega arith) l h)
+    (put-in s 0 (1 ∷ m ∷ length ws / 3 ∷ ws) 0 (omega arith) (omega (arith, ltb-false (length s) stateWords e))) (λ z. omega arith) l h)
     (λ f. k))
 
-kept-disk : (s chain : List ℕ) (start sectors ro : ℕ) (id : List ℕ) (b : ℕ) → (52 ≤ length s → level s ≡ 3 → Made s chain)
-    → 52 ≤ length (hdDisk s start sectors ro id b .state) → level (hdDisk s start sectors ro id b .state) ≡ 3 → Made (hdDisk s start sectors ro id b .state) chain
+kept-disk : (s chain : List ℕ) (start sectors ro : ℕ) (id : List ℕ) (b : ℕ) → (stateWords ≤ length s → level s ≡ 3 → Made s chain)
+    → stateWords ≤ length (hdDisk s start sectors ro id b .state) → level (hdDisk s start sectors ro id b .state) ≡ 3 → Made (hdDisk s start sectors ro id b .state) chain
 unfolding hdDisk
 kept-disk s chain start sectors ro id b k =
-    let P : Set → Type 0 = λ x. 52 ≤ length (x .state) → level (x .state) ≡ 3 → Made (x .state) chain in
+    let P : Set → Type 0 = λ x. stateWords ≤ length (x .state) → level (x .state) ≡ 3 → Made (x .state) chain in
     on P (ltb (length s) stateWords) (λ e. k)
     (λ e. on P (both (leb 1 (level s)) (leb (level s) 2))
     (λ f. on P (eqb (length id) 20)
     (λ f. on P (eqb (diskCode start sectors b) 0)
-    (λ f l h. not-three (diskSet s start sectors ro id b) chain 2 (disk-tag s start sectors ro id b (omega (arith, ltb-false (length s) 52 e))) (λ z. omega arith) l h)
+    (λ f l h. not-three (diskSet s start sectors ro id b) chain 2 (disk-tag s start sectors ro id b (omega (arith, ltb-false (length s) stateWords e))) (λ z. omega arith) l h)
     (λ f. k))
     (λ f. k))
     (λ f. k))
 
-kept-enabled : (s chain : List ℕ) (c g start : ℕ) (x : Areas) (rs : List Region) (size desc avail used : ℕ) → 52 ≤ length s → getD s 2 0 ≤ 8
-    → areas (regions (mapWords s)) size desc avail used ≡ x → (52 ≤ length s → level s ≡ 3 → Made s chain)
-    → 52 ≤ length (enabledWith s c g start x .state) → level (enabledWith s c g start x .state) ≡ 3 → Made (enabledWith s c g start x .state) chain
+kept-enabled : (s chain : List ℕ) (c g start : ℕ) (x : Areas) (rs : List Region) (size desc avail used : ℕ) → stateWords ≤ length s → getD s 2 0 ≤ 8
+    → areas (regions (mapWords s)) size desc avail used ≡ x → (stateWords ≤ length s → level s ≡ 3 → Made s chain)
+    → stateWords ≤ length (enabledWith s c g start x .state) → level (enabledWith s c g start x .state) ≡ 3 → Made (enabledWith s c g start x .state) chain
 unfolding enabledWith
 kept-enabled s chain c g start (Refused n) rs size desc avail used l h e k = k
 kept-enabled s chain c g start (Placed q) rs size desc avail used l h e k =
-    let P : Set → Type 0 = λ x. 52 ≤ length (x .state) → level (x .state) ≡ 3 → Made (x .state) chain in
+    let P : Set → Type 0 = λ x. stateWords ≤ length (x .state) → level (x .state) ≡ 3 → Made (x .state) chain in
     on P (ltb c (2 * q .size)) (λ f. k)
     (λ f. on P (ltb g 1048576) (λ f. k)
     (λ f. on P (leb 65536 start) (λ f. k)
     (λ f u v. made-enable s q c g start chain l h (areas-placed (regions (mapWords s)) size desc avail used q e))))
 
-kept-enable : (s chain : List ℕ) (size desc avail used c g start : ℕ) → (52 ≤ length s → level s ≡ 3 → Made s chain)
-    → 52 ≤ length (hdEnableAt s size desc avail used c g start .state) → level (hdEnableAt s size desc avail used c g start .state) ≡ 3
+kept-enable : (s chain : List ℕ) (size desc avail used c g start : ℕ) → (stateWords ≤ length s → level s ≡ 3 → Made s chain)
+    → stateWords ≤ length (hdEnableAt s size desc avail used c g start .state) → level (hdEnableAt s size desc avail used c g start .state) ≡ 3
     → Made (hdEnableAt s size desc avail used c g start .state) chain
 unfolding hdEnableAt
 kept-enable s chain size desc avail used c g start k =
-    let P : Set → Type 0 = λ x. 52 ≤ length (x .state) → level (x .state) ≡ 3 → Made (x .state) chain in
+    let P : Set → Type 0 = λ x. stateWords ≤ length (x .state) → level (x .state) ≡ 3 → Made (x .state) chain in
     on P (ltb (length s) stateWords) (λ e. k)
     (λ e. on P (eqb (level s) 2)
-    (λ f. kept-enabled s chain c g start (areas (regions (mapWords s)) size desc avail used) [] size desc avail used (ltb-false (length s) 52 e)
+    (λ f. kept-enabled s chain c g start (areas (regions (mapWords s)) size desc avail used) [] size desc avail used (ltb-false (length s) stateWords e)
     (memory-ok s (level-two s (eqb-true (level s) 2 f)) .few) refl k)
     (λ f. k))
 
-kept-reset : (s chain : List ℕ) → (52 ≤ length s → level s ≡ 3 → Made s chain)
-    → 52 ≤ length (hdReset s .state) → level (hdReset s .state) ≡ 3 → Made (hdReset s .state) chain
+kept-reset : (s chain : List ℕ) → (stateWords ≤ length s → level s ≡ 3 → Made s chain)
+    → stateWords ≤ length (hdReset s .state) → level (hdReset s .state) ≡ 3 → Made (hdReset s .state) chain
 unfolding hdReset
 kept-reset s chain k =
-    let P : List ℕ → Type 0 = λ x. 52 ≤ length x → level x ≡ 3 → Made x chain in
+    let P : List ℕ → Type 0 = λ x. stateWords ≤ length x → level x ≡ 3 → Made x chain in
     on (λ (x : Set). P (x .state)) (ltb (length s) stateWords) (λ e. k)
     (λ e. on P (eqb (level s) 3)
-    (λ f l h. not-three (set s 0 2) chain 2 (getD-set-same s 0 2 0 (omega (arith, ltb-false (length s) 52 e))) (λ z. omega arith) l h) (λ f. k))
+    (λ f l h. not-three (set s 0 2) chain 2 (getD-set-same s 0 2 0 (omega (arith, ltb-false (length s) stateWords e))) (λ z. omega arith) l h) (λ f. k))
 
-kept-step : (s mem backing chain stage : List ℕ) → ((i : ℕ) → getD mem i 0 < 256) → (52 ≤ length s → level s ≡ 3 → Made s chain)
-    → 52 ≤ length (hdStep s mem backing chain stage .state) → level (hdStep s mem backing chain stage .state) ≡ 3
+kept-step : (s mem backing chain stage : List ℕ) → ((i : ℕ) → getD mem i 0 < 256) → (stateWords ≤ length s → level s ≡ 3 → Made s chain)
+    → stateWords ≤ length (hdStep s mem backing chain stage .state) → level (hdStep s mem backing chain stage .state) ≡ 3
     → Made (hdStep s mem backing chain stage .state) (hdStep s mem backing chain stage .chain)
 kept-step s mem backing chain stage b k =
-    by-step (λ (o : Called). 52 ≤ length (o .state) → level (o .state) ≡ 3 → Made (o .state) (o .chain)) s mem backing chain stage (λ n. k)
+    by-step (λ (o : Called). stateWords ≤ length (o .state) → level (o .state) ≡ 3 → Made (o .state) (o .chain)) s mem backing chain stage (λ n. k)
     (λ g l h. made-step s mem backing chain stage b g (k (g .words-long) (g .enabled)))
 
 pub kept-call : (w : World) (c : Call) → BytesNow c → Kept w → Kept (left (ran w c))

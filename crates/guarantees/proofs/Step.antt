@@ -33,7 +33,7 @@ by-answer P s mem backing chain stage u g =
     (λ b. on P (isBroken (phaseOf (rowAt s))) (λ c. u 3 (omega arith))
     (λ c. on P (longEnough s (length mem) (length backing) (length chain) (length stage))
     (λ d. on P (ready (getD s 1 0) chain (phaseOf (rowAt s)))
-    (λ e. g (record { words-long = ltb-false (length s) 52 a; enabled = eqb-true (level s) 3 b; phase-is = refl; slices-long = d; chain-ready = e }))
+    (λ e. g (record { words-long = ltb-false (length s) stateWords a; enabled = eqb-true (level s) 3 b; phase-is = refl; slices-long = d; chain-ready = e }))
     (λ e. u 4 (omega arith)))
     (λ d. u 4 (omega arith))))
     (λ b. u 4 (omega arith)))
@@ -58,23 +58,23 @@ StoresIn c (stores at bs) = at + length bs ≤ 512 * c
 StoresIn c (answers k job) = Unit {0}
 StoresIn c publishes = Unit {0}
 
-pub stores-in : (c : Cfg) (t a : ℕ) (p : Phase) → sane (c .queue .size) (c .disk .sectors) p ≡ true → (mem chain stage : List ℕ)
-    → StoresIn (c .disk .sectors) (effect chain stage p (fetched c (stateOf t a p) chain mem))
+pub stores-in : (c : Cfg) (t a n : ℕ) (p : Phase) → sane (c .queue .size) (c .disk .sectors) p ≡ true → (mem chain stage : List ℕ)
+    → StoresIn (c .disk .sectors) (effect chain stage p (fetched c (stateOf t a n p) chain mem))
 unfolding StoresIn effect want
-stores-in c t a Poll h mem chain stage = tt
-stores-in c t a Entry h mem chain stage = tt
-stores-in c t a (Chain k cur) h mem chain stage = tt
-stores-in c t a (Header k p got) h mem chain stage = tt
-stores-in c t a (Payload k p s got) h mem chain stage =
+stores-in c t a n Poll h mem chain stage = tt
+stores-in c t a n Entry h mem chain stage = tt
+stores-in c t a n (Chain k cur) h mem chain stage = tt
+stores-in c t a n (Header k p got) h mem chain stage = tt
+stores-in c t a n (Payload k p s got) h mem chain stage =
     let f = part (left chain p .at) (left chain p .len) mem in
     on (StoresIn (c .disk .sectors)) (ends k got (left chain p .len))
     (λ e. let l : got + left chain p .len ≡ k .r - 16 = ends-is k got (left chain p .len) e in
     let u = payload-ok (c .queue .size) (c .disk .sectors) k p s got h .fit .to in
     omega (arith, length-append (part 0 got stage) f, length-part-le 0 got stage, length-part-le (left chain p .at) (left chain p .len) mem, l, u))
     (λ e. tt)
-stores-in c t a (Answer k job got) h mem chain stage = tt
-stores-in c t a (Publish k got) h mem chain stage = tt
-stores-in c t a (Broken reason head count) h mem chain stage = tt
+stores-in c t a n (Answer k job got) h mem chain stage = tt
+stores-in c t a n (Publish k got) h mem chain stage = tt
+stores-in c t a n (Broken reason head count at) h mem chain stage = tt
 
 -- what is stored within the disk leaves every byte outside it
 pub stores-apart : (e : Effect) (d c : ℕ) (b : List ℕ) (i : ℕ) → StoresIn c e → Apart i d (512 * c) → getD (shifted d (diskStores e) b) i 0 ≡ getD b i 0
@@ -93,5 +93,5 @@ wall-step s mem backing chain stage i k =
     by-step (λ (o : Called). getD (o .backing) i 0 ≡ getD backing i 0) s mem backing chain stage (λ n. refl)
     (λ g. let c = cfgOf (configAt s) (mapWords s) in
     let p = phaseOf (rowAt s) in
-    stores-apart (effect chain stage p (fetched c (stateOf (getD s 40 0) (getD s 41 0) p) chain mem)) (getD s 27 0) (getD s 28 0) backing i
-    (stores-in c (getD s 40 0) (getD s 41 0) p (level-three s (g .enabled) .phase) mem chain stage) k)
+    stores-apart (effect chain stage p (fetched c (stateOf (getD s 40 0) (getD s 41 0) (getD s 52 0) p) chain mem)) (getD s 27 0) (getD s 28 0) backing i
+    (stores-in c (getD s 40 0) (getD s 41 0) (getD s 52 0) p (level-three s (g .enabled) .phase) mem chain stage) k)

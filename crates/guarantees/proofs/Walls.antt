@@ -77,7 +77,7 @@ module _ (In : ℕ → Type 0) (s mem b₁ b₂ chain stage : List ℕ) (l : len
   unfolding steppedOn stepped step stepWith configAt
   same-stepped c =
       let p = phaseOf (rowAt s) in
-      let e = effect chain stage p (fetched (cfgOf (configAt s) (mapWords s)) (stateOf (getD s 40 0) (getD s 41 0) p) chain mem) in
+      let e = effect chain stage p (fetched (cfgOf (configAt s) (mapWords s)) (stateOf (getD s 40 0) (getD s 41 0) (getD s 52 0) p) chain mem) in
       let d : diskOf (configAt s .disk) b₁ ≡ diskOf (configAt s .disk) b₂ =
       part-cong (getD s 27 0) (512 * getD s 28 0) b₁ b₂ l (λ i u v. h i (c i u v)) in
       record {
@@ -153,7 +153,7 @@ length-stepped : (s mem backing chain stage : List ℕ) → length (steppedOn s 
 unfolding steppedOn stepped step stepWith configAt
 length-stepped s mem backing chain stage =
     let p = phaseOf (rowAt s) in
-    stores-length (effect chain stage p (fetched (cfgOf (configAt s) (mapWords s)) (stateOf (getD s 40 0) (getD s 41 0) p) chain mem)) (getD s 27 0) backing
+    stores-length (effect chain stage p (fetched (cfgOf (configAt s) (mapWords s)) (stateOf (getD s 40 0) (getD s 41 0) (getD s 52 0) p) chain mem)) (getD s 27 0) backing
 
 length-call : (w : World) (c : Call) → length (ran w c .backing) ≡ length (w .backing)
 unfolding ran

@@ -23,7 +23,7 @@ held (Header k p got) = k .head ∷ []
 held (Payload k p s got) = k .head ∷ []
 held (Answer k job got) = k .head ∷ []
 held (Publish k got) = k .head ∷ []
-held (Broken reason head count) = pick (eqb count 0) [] (head ∷ [])
+held (Broken reason head count at) = pick (eqb count 0) [] (head ∷ [])
 
 -- .. of a world; none where no queue is enabled
 unfoldable pub atHand : World → List ℕ
@@ -47,7 +47,7 @@ takes (Header k p got) q = []
 takes (Payload k p s got) q = []
 takes (Answer k job got) q = []
 takes (Publish k got) q = []
-takes (Broken reason head count) q = []
+takes (Broken reason head count at) q = []
 
 unfoldable pub gives : Phase → List ℕ
 gives Poll = []
@@ -57,7 +57,7 @@ gives (Header k p got) = []
 gives (Payload k p s got) = []
 gives (Answer k job got) = []
 gives (Publish k got) = k .head ∷ []
-gives (Broken reason head count) = []
+gives (Broken reason head count at) = []
 
 -- .. of a call
 unfoldable pub taken : World → Call → List ℕ

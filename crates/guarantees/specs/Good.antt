@@ -7,7 +7,7 @@ use lib.ListN.{getD}
 use Rattle.model.specs.Memory.{Region, regions}
 use Rattle.words.specs.Layout.{mapWords, phaseOf, rowAt}
 use Rattle.model.specs.Request.{fits}
-use Rattle.model.specs.Sane.{jobOk}
+use Rattle.model.specs.Sane.{jobOk, refusedAt}
 use Rattle.model.proofs.Memory.{InOne}
 use Rattle.model.specs.declared.Walk.{Walk}
 use Rattle.model.specs.declared.Place.{Place}
@@ -49,7 +49,7 @@ Good rs q sectors chain (Payload k p s got) =
     WalkGood rs q chain k × (k .reads < k .count) × (16 < k .r) × (got < k .r - 16) × (fits (k .r - 16) s sectors ≡ true) × Next chain k p (16 + got)
 Good rs q sectors chain (Answer k job got) = WalkGood rs q chain k × (k .reads < k .count) × (got ≤ k .r) × (jobOk sectors k job ≡ true)
 Good rs q sectors chain (Publish k got) = WalkGood rs q chain k × (k .reads < k .count) × (got ≤ k .r)
-Good rs q sectors chain (Broken reason head count) = (1 ≤ reason) × (reason ≤ 8) × (head < q) × (count ≤ q + 1)
+Good rs q sectors chain (Broken reason head count at) = (1 ≤ reason) × (reason ≤ 8) × (head < q) × (count ≤ q + 1) × (refusedAt q count at ≡ true)
 
 -- a payload is fetched for a disk that is not read-only
 unfoldable pub Open : ℕ → Phase → Type 0
@@ -60,7 +60,7 @@ Open ro (Header k p got) = Unit {0}
 Open ro (Payload k p s got) = ro ≡ 0
 Open ro (Answer k job got) = Unit {0}
 Open ro (Publish k got) = Unit {0}
-Open ro (Broken reason head count) = Unit {0}
+Open ro (Broken reason head count at) = Unit {0}
 
 -- an area of n bytes that lies in one registered region
 pub record Area (rs : List Region) (at n : ℕ) : Type 0 where

@@ -158,7 +158,7 @@ touched q answered chain (Header k p got) = []
 touched q answered chain (Payload k p s got) = []
 touched q answered chain (Answer k job got) = record { at = usedAt q answered; len = 8 } ∷ writables chain k
 touched q answered chain (Publish k got) = record { at = q .used + 2; len = 2 } ∷ []
-touched q answered chain (Broken reason head count) = []
+touched q answered chain (Broken reason head count at) = []
 
 -- byte i lies outside all of these ranges
 unfoldable pub Clear : ℕ → List Span → Type 0

@@ -19,7 +19,7 @@ use Rattle.model.specs.declared.Phase.the-variants.{Poll, Entry, Chain, Header,
 use Rattle.model.proofs.Tests.{told, both-split}
 use Rattle.device.specs.Turn.{Fit, Met, cfgOf, stateOf}
 use Rattle.words.specs.declared.Row.{Row}
-use Rattle.words.specs.Layout.{row, walkOf, jobOf, phaseOf, rowAt, saved, walkAt, placeAt, configAt, mapWords, memoryOk, tagsOk, phaseOk, framed, level}
+use Rattle.words.specs.Layout.{stateWords, row, walkOf, jobOf, phaseOf, rowAt, saved, walkAt, placeAt, configAt, mapWords, memoryOk, tagsOk, phaseOk, framed, level}
 use Rattle.words.proofs.Laws.{level-framed, framed-queue}
 use Rattle.hostiledisk.specs.Calls.{isBroken, longEnough, stepped, steppedOn, untouched, brokenCode, hdStep, Framed, Going, StepIs}
 use Rattle.hostiledisk.proofs.Laws.{memory-ok, fit-of, untouched-is}
@@ -30,7 +30,7 @@ rowAs s n = row n (walkAt s) (getD s 48 0) (getD s 49 0) (getD s 50 0) (getD s 5
 
 -- the words hold this phase, which has a step to take
 pub record Held (s : List ℕ) (p : Phase) (mem backing chain stage : ℕ) : Type 0 where
-  pub words-long : 52 ≤ length s
+  pub words-long : stateWords ≤ length s
   pub frame : framed s ≡ true
   pub tags : tagsOk (getD s 42 0) (getD s 48 0) ≡ true
   pub phase-is : phaseOf (rowAt s) ≡ p
@@ -155,7 +155,7 @@ not-broken-by : (a b c d e f g : Bool) (x : Row) → (a ≡ false → b ≡ fals
     (pick c (Chain (walkOf x) (x .a))
     (pick d (Header (walkOf x) (record { buf = x .a; skip = x .b }) (x .d))
     (pick e (Payload (walkOf x) (record { buf = x .a; skip = x .b }) (x .c) (x .d))
-    (pick f (Answer (walkOf x) (jobOf (x .a) (x .c)) (x .d)) (pick g (Publish (walkOf x) (x .d)) (Broken (x .a) (x .head) (x .count)))))))))
+    (pick f (Answer (walkOf x) (jobOf (x .a) (x .c)) (x .d)) (pick g (Publish (walkOf x) (x .d)) (Broken (x .a) (x .head) (x .count) (x .b)))))))))
     ≡ false
 unfolding isBroken
 not-broken-by true b c d e f g x n = refl
@@ -178,7 +178,7 @@ not-broken s e h =
 
 module _ (s mem backing chain stage : List ℕ) where
   -- what is left of `hdStep` once the words are framed
-  hd-framed : 52 ≤ length s → framed s ≡ true
+  hd-framed : stateWords ≤ length s → framed s ≡ true
       → hdStep s mem backing chain stage
       ≡ pick (phaseOk s)
       (pick (isBroken (phaseOf (rowAt s))) (untouched 3 s mem backing chain stage)
@@ -187,15 +187,15 @@ module _ (s mem backing chain stage : List ℕ) where
       (untouched 4 s mem backing chain stage)))
       (untouched 4 s mem backing chain stage)
   unfolding hdStep
-  hd-framed w f = rw (le-ltb (length s) 52 w, level-framed s, f)
+  hd-framed w f = rw (le-ltb (length s) stateWords w, level-framed s, f)
 
   -- words that set-up doesn't make
-  pub unframed : 52 ≤ length s → framed s ≡ false → StepIs (hdStep s mem backing chain stage) 4 s mem backing chain stage
+  pub unframed : stateWords ≤ length s → framed s ≡ false → StepIs (hdStep s mem backing chain stage) 4 s mem backing chain stage
   unfolding hdStep
-  unframed w f = rw (le-ltb (length s) 52 w, level-framed s, f) (untouched-is 4 s mem backing chain stage)
+  unframed w f = rw (le-ltb (length s) stateWords w, level-framed s, f) (untouched-is 4 s mem backing chain stage)
 
   -- words that no step makes
-  pub wild : 52 ≤ length s → framed s ≡ true → tagsOk (getD s 42 0) (getD s 48 0) ≡ false
+  pub wild : stateWords ≤ length s → framed s ≡ true → tagsOk (getD s 42 0) (getD s 48 0) ≡ false
       → StepIs (hdStep s mem backing chain stage) 4 s mem backing chain stage
   unfolding phaseOk
   wild w f t = rw (hd-framed w f, t) (untouched-is 4 s mem backing chain stage)
@@ -206,24 +206,24 @@ module _ (s mem backing chain stage : List ℕ) where
   wild-job f h = wild (f .words-long) (f .frame) (rw (f .tag-is, lt-leb (getD s 48 0) 5 h))
 
   -- a broken queue
-  broken-by : 52 ≤ length s → framed s ≡ true → getD s 42 0 ≡ 8 → (b : Bool)
-      → sane (getD s 34 0) 0 (Broken (getD s 48 0) (getD s 43 0) (getD s 44 0)) ≡ b
+  broken-by : stateWords ≤ length s → framed s ≡ true → getD s 42 0 ≡ 8 → (b : Bool)
+      → sane (getD s 34 0) 0 (Broken (getD s 48 0) (getD s 43 0) (getD s 44 0) (getD s 49 0)) ≡ b
       → StepIs (hdStep s mem backing chain stage) (pick b 3 4) s mem backing chain stage
   unfolding phaseOk tagsOk phaseOf rowAt isBroken sane
   broken-by w f e true u = rw (hd-framed w f, e, u) (untouched-is 3 s mem backing chain stage)
   broken-by w f e false u = rw (hd-framed w f, e, u) (untouched-is 4 s mem backing chain stage)
 
-  pub broken-is : 52 ≤ length s → framed s ≡ true → 8 ≤ getD s 42 0 → StepIs (hdStep s mem backing chain stage) (brokenCode s) s mem backing chain stage
+  pub broken-is : stateWords ≤ length s → framed s ≡ true → 8 ≤ getD s 42 0 → StepIs (hdStep s mem backing chain stage) (brokenCode s) s mem backing chain stage
   unfolding brokenCode
   broken-is w f t = go (eqb (getD s 42 0) 8) refl
     where
       go : (b : Bool) → eqb (getD s 42 0) 8 ≡ b
-          → StepIs (hdStep s mem backing chain stage) (pick (both b (sane (getD s 34 0) 0 (Broken (getD s 48 0) (getD s 43 0) (getD s 44 0)))) 3 4) s mem backing chain stage
-      go true e = broken-by w f (eqb-true (getD s 42 0) 8 e) (sane (getD s 34 0) 0 (Broken (getD s 48 0) (getD s 43 0) (getD s 44 0))) refl
+          → StepIs (hdStep s mem backing chain stage) (pick (both b (sane (getD s 34 0) 0 (Broken (getD s 48 0) (getD s 43 0) (getD s 44 0) (getD s 49 0)))) 3 4) s mem backing chain stage
+      go true e = broken-by w f (eqb-true (getD s 42 0) 8 e) (sane (getD s 34 0) 0 (Broken (getD s 48 0) (getD s 43 0) (getD s 44 0) (getD s 49 0))) refl
       go false e = wild w f (tag-high (getD s 42 0) (getD s 48 0) t (eqb-false (getD s 42 0) 8 e))
 
   -- slices that are too short
-  pub short : 52 ≤ length s → framed s ≡ true → getD s 42 0 < 8 → longEnough s (length mem) (length backing) (length chain) (length stage) ≡ false
+  pub short : stateWords ≤ length s → framed s ≡ true → getD s 42 0 < 8 → longEnough s (length mem) (length backing) (length chain) (length stage) ≡ false
       → StepIs (hdStep s mem backing chain stage) 4 s mem backing chain stage
   short w f t l = rw (hd-framed w f, l) (go (phaseOk s) refl)
     where
@@ -237,7 +237,7 @@ module _ (s mem backing chain stage : List ℕ) (p : Phase) (h : Held s p (lengt
   hd-held : hdStep s mem backing chain stage
       ≡ pick (sane (getD s 34 0) (getD s 28 0) p)
       (pick (ready (getD s 1 0) chain p)
-      (stepped s (step (cfgOf (configAt s) (mapWords s)) (stateOf (getD s 40 0) (getD s 41 0) p) mem backing chain stage))
+      (stepped s (step (cfgOf (configAt s) (mapWords s)) (stateOf (getD s 40 0) (getD s 41 0) (getD s 52 0) p) mem backing chain stage))
       (untouched 4 s mem backing chain stage))
       (untouched 4 s mem backing chain stage)
   unfolding phaseOk steppedOn
@@ -251,15 +251,15 @@ module _ (s mem backing chain stage : List ℕ) (p : Phase) (h : Held s p (lengt
   unready e r = rw (hd-held, e, r) (untouched-is 4 s mem backing chain stage)
 
   pub acted : sane (getD s 34 0) (getD s 28 0) p ≡ true → ready (getD s 1 0) chain p ≡ true
-      → (t a : ℕ) (q : Phase) (code : ℕ) (s₂ mem₂ backing₂ chain₂ stage₂ : List ℕ)
-      → Met (step (cfgOf (configAt s) (mapWords s)) (stateOf (getD s 40 0) (getD s 41 0) p) mem backing chain stage) t a q code mem₂ backing₂ chain₂ stage₂
-      → s₂ ≡ saved s t a q → (r : ℕ) → r ≡ code → StepIs (hdStep s mem backing chain stage) r s₂ mem₂ backing₂ chain₂ stage₂
+      → (t a l : ℕ) (q : Phase) (code : ℕ) (s₂ mem₂ backing₂ chain₂ stage₂ : List ℕ)
+      → Met (step (cfgOf (configAt s) (mapWords s)) (stateOf (getD s 40 0) (getD s 41 0) (getD s 52 0) p) mem backing chain stage) t a l q code mem₂ backing₂ chain₂ stage₂
+      → s₂ ≡ saved s t a l q → (r : ℕ) → r ≡ code → StepIs (hdStep s mem backing chain stage) r s₂ mem₂ backing₂ chain₂ stage₂
   unfolding stepped
-  acted e y t a q code s₂ mem₂ backing₂ chain₂ stage₂ m x r z =
+  acted e y t a l q code s₂ mem₂ backing₂ chain₂ stage₂ m x r z =
       rw (hd-held, e, y)
       (record {
         code-is = z ∙ m .code-is;
-        state-is = rw (x, m .taken-is, m .answered-is, m .phase-is);
+        state-is = rw (x, m .taken-is, m .answered-is, m .descs-is, m .phase-is);
         mem-is = m .mem-is;
         backing-is = m .backing-is;
         chain-is = m .chain-is;

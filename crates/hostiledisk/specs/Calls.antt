@@ -1,14 +1,14 @@
 -- The C interface: what each call answers and leaves in every lent slice, tests in their order. A refusal touches nothing.
 use Prim.Native.Nat.{ℕ, _+_, _*_, _/_, _≤_}
 use mathlib.Core.Bool.{Bool, true, false}
-use mathlib.Core.List.{List, [], _∷_}
+use mathlib.Core.List.{List, [], _∷_, _++_}
 use mathlib.Core.Path.{_≡_}
 use lib.Dec.{leb, ltb, eqb}
 use lib.ListN.{getD, length, set}
 use Rattle.model.specs.Pick.{pick, both}
 use Rattle.model.specs.Bytes.{put, word}
 use Rattle.model.specs.Memory.{regions, memoryCode}
-use Rattle.model.specs.Ring.{sizeOk, areas}
+use Rattle.model.specs.Ring.{sizeOk, areas, elsewhere}
 use Rattle.model.specs.Request.{diskCode}
 use Rattle.model.specs.Step.{Out, step}
 use Rattle.model.specs.Sane.{sane, ready}
@@ -57,9 +57,11 @@ hdDisk s start sectors ro id backing =
     (told 41 s))
 
 -- hd_enable_at: "40 · 41 memory or disk missing, or already enabled · 25 to 28 · 42 chain memory too small · 43 staging memory too small · 46 start is 65,536 or more"
+abbrev pub queueWords : Queue → ℕ → ℕ → ℕ → List ℕ
+queueWords q chain stage start = q .size ∷ q .desc ∷ q .avail ∷ q .used ∷ chain ∷ stage ∷ start ∷ start ∷ (rowWords (rowOf Poll) ++ (0 ∷ []))
+
 unfoldable pub queueSet : List ℕ → Queue → ℕ → ℕ → ℕ → List ℕ
-queueSet s q chain stage start =
-    put (set s 0 3) 34 (q .size ∷ q .desc ∷ q .avail ∷ q .used ∷ chain ∷ stage ∷ start ∷ start ∷ rowWords (rowOf Poll))
+queueSet s q chain stage start = put (set s 0 3) 34 (queueWords q chain stage start)
 
 unfoldable pub enabledWith : List ℕ → ℕ → ℕ → ℕ → Areas → Set
 enabledWith s chain stage start (Refused n) = told n s
@@ -80,28 +82,43 @@ hdReset s = pick (ltb (length s) stateWords) (told 40 s) (told 0 (pick (eqb (lev
 
 -- hd_status: enabled · broken reason · taken · answered · the step that comes next · head · descriptors fetched · bytes fetched.
 -- "The last three are 0 where there is no request at hand"; after a break they speak of the request that broke the queue.
-abbrev pub seen : ℕ → ℕ → ℕ → ℕ → ℕ → Seen
-seen reason step head count bytes = record { reason = reason; step = step; head = head; count = count; bytes = bytes }
+-- DEV-12, two words more: the descriptor at which the chain was refused, "65,536 where the queue is in order or broke elsewhere"
+-- · "the number of descriptors of the last chain that was complete"
+abbrev pub seen : ℕ → ℕ → ℕ → ℕ → ℕ → ℕ → Seen
+seen reason step head count bytes at = record { reason = reason; step = step; head = head; count = count; bytes = bytes; at = at }
 
 unfoldable pub seenOf : Phase → Seen
-seenOf Poll = seen 0 1 0 0 0
-seenOf Entry = seen 0 2 0 0 0
-seenOf (Chain k cur) = seen 0 3 (k .head) (k .count) 0
-seenOf (Header k p got) = seen 0 4 (k .head) (k .count) got
-seenOf (Payload k p s got) = seen 0 5 (k .head) (k .count) (16 + got)
-seenOf (Answer k job got) = seen 0 6 (k .head) (k .count) got
-seenOf (Publish k got) = seen 0 7 (k .head) (k .count) got
-seenOf (Broken reason head count) = seen reason 0 head count 0
+seenOf Poll = seen 0 1 0 0 0 elsewhere
+seenOf Entry = seen 0 2 0 0 0 elsewhere
+seenOf (Chain k cur) = seen 0 3 (k .head) (k .count) 0 elsewhere
+seenOf (Header k p got) = seen 0 4 (k .head) (k .count) got elsewhere
+seenOf (Payload k p s got) = seen 0 5 (k .head) (k .count) (16 + got) elsewhere
+seenOf (Answer k job got) = seen 0 6 (k .head) (k .count) got elsewhere
+seenOf (Publish k got) = seen 0 7 (k .head) (k .count) got elsewhere
+seenOf (Broken reason head count at) = seen reason 0 head count 0 at
 
 unfoldable pub shown : ℕ → ℕ → ℕ → Seen → List ℕ
 shown enabled taken answered x = enabled ∷ x .reason ∷ taken ∷ answered ∷ x .step ∷ x .head ∷ x .count ∷ x .bytes ∷ []
 
-unfoldable pub statusWords : List ℕ → List ℕ
-statusWords s = pick (eqb (level s) 3) (shown 1 (getD s 40 0) (getD s 41 0) (seenOf (phaseOf (rowAt s)))) (shown 0 0 0 (seen 0 0 0 0 0))
+abbrev pub shownMore : ℕ → Seen → List ℕ
+shownMore descs x = x .at ∷ descs ∷ []
+
+-- "Where the queue isn't enabled all words are 0."
+abbrev pub unseen : Seen
+unseen = seen 0 0 0 0 0 0
+
+-- the first eight words, or all ten: "with an out of ten or more words"
+unfoldable pub statusWords : Bool → List ℕ → List ℕ
+statusWords more s =
+    pick (eqb (level s) 3)
+    (shown 1 (getD s 40 0) (getD s 41 0) (seenOf (phaseOf (rowAt s))) ++ pick more (shownMore (getD s 52 0) (seenOf (phaseOf (rowAt s)))) [])
+    (shown 0 0 0 unseen ++ pick more (shownMore 0 unseen) [])
 
 -- "40 state too short · 45 out too short (fewer than 8) · 0 and the words"; `state` is what out holds afterwards
 unfoldable pub hdStatus : List ℕ → List ℕ → Set
-hdStatus s out = pick (ltb (length s) stateWords) (told 40 out) (pick (ltb (length out) 8) (told 45 out) (told 0 (put out 0 (statusWords s))))
+hdStatus s out =
+    pick (ltb (length s) stateWords) (told 40 out)
+    (pick (ltb (length out) 8) (told 45 out) (told 0 (put out 0 (statusWords (leb 10 (length out)) s))))
 
 -- what hd_step answers, and every lent slice afterwards
 pub record Called : Type 0 where
@@ -123,7 +140,7 @@ isBroken (Header k p got) = false
 isBroken (Payload k p s got) = false
 isBroken (Answer k job got) = false
 isBroken (Publish k got) = false
-isBroken (Broken reason head count) = true
+isBroken (Broken reason head count at) = true
 
 -- "The slices of hd_step must be at least as long as set-up was told"
 unfoldable pub longEnough : List ℕ → ℕ → ℕ → ℕ → ℕ → Bool
@@ -134,7 +151,7 @@ unfoldable pub stepped : List ℕ → Out → Called
 stepped s o =
     record {
       code = o .code;
-      state = saved s (o .state .taken) (o .state .answered) (o .state .phase);
+      state = saved s (o .state .taken) (o .state .answered) (o .state .descs) (o .state .phase);
       mem = o .mem;
       backing = o .backing;
       chain = o .chain;
@@ -144,11 +161,11 @@ stepped s o =
 -- a step of the model on these words
 unfoldable pub steppedOn : List ℕ → List ℕ → List ℕ → List ℕ → List ℕ → Called
 steppedOn s mem backing chain stage =
-    stepped s (step (cfgOf (configAt s) (mapWords s)) (stateOf (getD s 40 0) (getD s 41 0) (phaseOf (rowAt s))) mem backing chain stage)
+    stepped s (step (cfgOf (configAt s) (mapWords s)) (stateOf (getD s 40 0) (getD s 41 0) (getD s 52 0) (phaseOf (rowAt s))) mem backing chain stage)
 
 -- what a step on words stands on: they passed every test
 pub record Going (s : List ℕ) (p : Phase) (mem backing : ℕ) (chain : List ℕ) (stage : ℕ) : Type 0 where
-  pub words-long : 52 ≤ length s
+  pub words-long : stateWords ≤ length s
   pub enabled : level s ≡ 3
   pub phase-is : p ≡ phaseOf (rowAt s)
   pub slices-long : longEnough s mem backing (length chain) stage ≡ true
@@ -156,14 +173,14 @@ pub record Going (s : List ℕ) (p : Phase) (mem backing : ℕ) (chain : List �
 
 -- what a phase's own function stands on: words that are an enabled queue's but for the phase, whose number this is, and slices that are long enough
 pub record Framed (s : List ℕ) (tag mem backing chain stage : ℕ) : Type 0 where
-  pub words-long : 52 ≤ length s
+  pub words-long : stateWords ≤ length s
   pub frame : framed s ≡ true
   pub tag-is : getD s 42 0 ≡ tag
   pub slices-long : longEnough s mem backing chain stage ≡ true
 
 -- "3 the queue is broken"; other words with no step to take are none that steps make
 unfoldable pub brokenCode : List ℕ → ℕ
-brokenCode s = pick (both (eqb (getD s 42 0) 8) (sane (getD s 34 0) 0 (Broken (getD s 48 0) (getD s 43 0) (getD s 44 0)))) 3 4
+brokenCode s = pick (both (eqb (getD s 42 0) 8) (sane (getD s 34 0) 0 (Broken (getD s 48 0) (getD s 43 0) (getD s 44 0) (getD s 49 0)))) 3 4
 
 -- hd_step: "4 refused: not enabled, or the state is not one that set-up and steps make · 3 the queue is broken (nothing touched)
 -- · 4 refused: a slice is shorter than set-up was told (nothing touched) · 0 · 1 · 2 · 3 broken in this step"

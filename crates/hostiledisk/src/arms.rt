@@ -5,13 +5,13 @@ ghost use mathlib.Core.Path.{_≡_};
 ghost use Prim.Native.Nat.{_≤_};
 ghost use lib.ListN.{length};
 ghost use Rattle.model.specs.Step.{codeAfter};
-ghost use Rattle.words.specs.Layout.{kept};
+ghost use Rattle.words.specs.Layout.{stateWords, kept};
 ghost use Rattle.hostiledisk.specs.Calls.{hdStep, Framed, StepIs};
 use model::Phase;
 
 // A step that publishes nothing: the counters stay, and the answer goes by the phase.
 fn finish(state: &mut [usize], p: Phase) -> usize
-    requires { ⌜ 52 ≤ length (now state) ⌝ }
+    requires { ⌜ stateWords ≤ length (now state) ⌝ }
     ensures { λ r. ⌜ r ≡ codeAfter p ⌝ }
     ensures { λ _. ⌜ now (state .exit) ≡ kept (now (state .entry)) p ⌝ }
 {
@@ -42,6 +42,10 @@ pub fn entry(
 {
     let q = words::queue_at(state);
     let p = device::entry(q, state[40], mem);
+    if let Phase::Chain(k, head) = p {
+        words::save_chain(state, k, head);
+        return 1;
+    }
     finish(state, p)
 }
 
@@ -62,11 +66,13 @@ pub fn descriptor(
         let q = words::queue_at(state);
         let n = state[2];
         let end = 3 + 3 * n;
-        let p = device::descriptor(q, &state[3..end], state[1], k, cur, mem, chain);
+        let x = device::descriptor(q, &state[3..end], state[1], k, cur, state[52], mem, chain);
+        let p = x.phase;
         if let Phase::Chain(more, next) = p {
             words::save_chain(state, more, next);
             return 1;
         }
+        state[52] = x.descs;
         return finish(state, p);
     }
     4
@@ -186,11 +192,13 @@ pub fn publish(
         let q = words::queue_at(state);
         let taken = state[40];
         let answered = state[41];
+        let descs = state[52];
         device::publish(q, answered, mem);
         words::save(
             state,
             ring::one_more(taken),
             ring::one_more(answered),
+            descs,
             Phase::Poll,
         );
         return 2;

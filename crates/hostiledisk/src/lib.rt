@@ -5,27 +5,32 @@ ghost use mathlib.Core.Bool.{true};
 ghost use Prim.Native.Nat.{_≤_};
 ghost use lib.ListN.{length};
 ghost use Rattle.hostiledisk.specs.Calls.{chainWords, hdMemory, hdDisk, hdEnableAt, hdReset, hdStatus, hdStep, StepIs};
+ghost use Rattle.words.specs.Layout.{stateWords};
 
 pub mod arms;
 pub mod set_up;
 pub mod status;
 pub mod stepping;
 
-// What hd_status shows of a phase: the reason, the step that comes next, and head, descriptors and bytes fetched.
+// What hd_status shows of a phase: the reason, the step that comes next, head, descriptors and bytes fetched,
+// and the descriptor at which the chain was refused.
 pub struct Seen {
     pub reason: usize,
     pub step: usize,
     pub head: usize,
     pub count: usize,
     pub bytes: usize,
+    pub at: usize,
 }
+
+const STATE_WORDS: usize = 53;
 
 // Words of state that the host lends for a device.
 #[no_mangle]
 pub extern "C" fn hd_state_words() -> usize
-    ensures { λ r. ⌜ r ≡ 52 ⌝ }
+    ensures { λ r. ⌜ r ≡ stateWords ⌝ }
 {
-    52
+    STATE_WORDS
 }
 
 // Words of chain memory for a queue of this size: two for each descriptor.
@@ -52,7 +57,7 @@ pub extern "C" fn hd_memory(state: &mut [usize], map: &[usize], mem_len: usize) 
     ensures { λ r. ⌜ r ≡ hdMemory (now (state .entry)) (now (map .entry)) «mem_len» .code ⌝ }
     ensures { λ _. ⌜ now (state .exit) ≡ hdMemory (now (state .entry)) (now (map .entry)) «mem_len» .state ⌝ }
 {
-    if state.len() < 52 {
+    if state.len() < STATE_WORDS {
         return 40;
     }
     let code = regions::memory_code(mem_len, map);
@@ -75,7 +80,7 @@ pub extern "C" fn hd_disk(
     ensures { λ r. ⌜ r ≡ hdDisk (now (state .entry)) start sectors «read_only» (now (id .entry)) «backing_len» .code ⌝ }
     ensures { λ _. ⌜ now (state .exit) ≡ hdDisk (now (state .entry)) start sectors «read_only» (now (id .entry)) «backing_len» .state ⌝ }
 {
-    if state.len() < 52 {
+    if state.len() < STATE_WORDS {
         return 40;
     }
     let level = words::level(state);
@@ -110,7 +115,7 @@ pub extern "C" fn hd_enable_at(
     ensures { λ r. ⌜ r ≡ hdEnableAt (now (state .entry)) size desc avail used «chain_len» «stage_len» start .code ⌝ }
     ensures { λ _. ⌜ now (state .exit) ≡ hdEnableAt (now (state .entry)) size desc avail used «chain_len» «stage_len» start .state ⌝ }
 {
-    if state.len() < 52 {
+    if state.len() < STATE_WORDS {
         return 40;
     }
     if words::level(state) != 2 {
@@ -141,7 +146,7 @@ pub extern "C" fn hd_reset(state: &mut [usize]) -> usize
     ensures { λ r. ⌜ r ≡ hdReset (now (state .entry)) .code ⌝ }
     ensures { λ _. ⌜ now (state .exit) ≡ hdReset (now (state .entry)) .state ⌝ }
 {
-    if state.len() < 52 {
+    if state.len() < STATE_WORDS {
         return 40;
     }
     if words::level(state) == 3 {
@@ -156,7 +161,7 @@ pub extern "C" fn hd_status(state: &[usize], out: &mut [usize]) -> usize
     ensures { λ r. ⌜ r ≡ hdStatus (now (state .entry)) (now (out .entry)) .code ⌝ }
     ensures { λ _. ⌜ now (out .exit) ≡ hdStatus (now (state .entry)) (now (out .entry)) .state ⌝ }
 {
-    if state.len() < 52 {
+    if state.len() < STATE_WORDS {
         return 40;
     }
     if out.len() < 8 {
@@ -177,7 +182,7 @@ pub extern "C" fn hd_step(
 ) -> usize
     ensures { λ r. ⌜ StepIs (hdStep (now (state .entry)) (now (mem .entry)) (now (backing .entry)) (now (chain .entry)) (now (stage .entry))) r (now (state .exit)) (now (mem .exit)) (now (backing .exit)) (now (chain .exit)) (now (stage .exit)) ⌝ }
 {
-    if state.len() < 52 {
+    if state.len() < STATE_WORDS {
         return 4;
     }
     if words::framed(state) {

@@ -7,14 +7,14 @@ ghost use lib.ListN.{length};
 ghost use Rattle.model.specs.Bytes.{put};
 ghost use Rattle.model.specs.Memory.{regions};
 ghost use Rattle.model.specs.Ring.{areas};
-ghost use Rattle.words.specs.Layout.{memoryOk, mapWords};
+ghost use Rattle.words.specs.Layout.{stateWords, memoryOk, mapWords};
 ghost use Rattle.hostiledisk.specs.Calls.{flag, diskSet, queueSet, enabledWith};
 use model::Areas;
 use model::Phase;
 use model::Queue;
 
 pub fn note_memory(state: &mut [usize], map: &[usize], m: usize)
-    requires { ⌜ 52 ≤ length (now state) ⌝ }
+    requires { ⌜ stateWords ≤ length (now state) ⌝ }
     requires { ⌜ length (now map) ≤ 24 ⌝ }
     ensures { λ _. ⌜ now (state .exit) ≡ put (now (state .entry)) 0 (1 ∷ m ∷ (length (now (map .entry)) / 3) ∷ now (map .entry)) ⌝ }
 {
@@ -41,7 +41,7 @@ pub fn note_disk(
     id: &[u8],
     backing: usize,
 )
-    requires { ⌜ 52 ≤ length (now state) ⌝ }
+    requires { ⌜ stateWords ≤ length (now state) ⌝ }
     requires { ⌜ length (now id) ≡ 20 ⌝ }
     ensures { λ _. ⌜ now (state .exit) ≡ diskSet (now (state .entry)) start sectors ro (now (id .entry)) backing ⌝ }
 {
@@ -57,7 +57,7 @@ pub fn note_disk(
 
 // Where the areas of a queue would lie in the registered memory.
 pub fn areas(state: &[usize], size: usize, desc: usize, avail: usize, used: usize) -> Areas
-    requires { ⌜ 52 ≤ length (now state) ⌝ }
+    requires { ⌜ stateWords ≤ length (now state) ⌝ }
     requires { ⌜ memoryOk (now state) ≡ true ⌝ }
     ensures { λ r. ⌜ r ≡ areas (regions (mapWords (now (state .entry)))) size desc avail used ⌝ }
 {
@@ -67,7 +67,7 @@ pub fn areas(state: &[usize], size: usize, desc: usize, avail: usize, used: usiz
 }
 
 fn note_queue(state: &mut [usize], q: Queue, chain: usize, stage: usize, start: usize)
-    requires { ⌜ 52 ≤ length (now state) ⌝ }
+    requires { ⌜ stateWords ≤ length (now state) ⌝ }
     ensures { λ _. ⌜ now (state .exit) ≡ queueSet (now (state .entry)) q chain stage start ⌝ }
 {
     state[0] = 3;
@@ -77,11 +77,11 @@ fn note_queue(state: &mut [usize], q: Queue, chain: usize, stage: usize, start: 
     state[37] = q.used;
     state[38] = chain;
     state[39] = stage;
-    words::save(state, start, start, Phase::Poll);
+    words::save(state, start, start, 0, Phase::Poll);
 }
 
 pub fn enable(state: &mut [usize], chain: usize, stage: usize, start: usize, found: Areas) -> usize
-    requires { ⌜ 52 ≤ length (now state) ⌝ }
+    requires { ⌜ stateWords ≤ length (now state) ⌝ }
     ensures { λ r. ⌜ r ≡ enabledWith (now (state .entry)) chain stage start found .code ⌝ }
     ensures { λ _. ⌜ now (state .exit) ≡ enabledWith (now (state .entry)) chain stage start found .state ⌝ }
 {

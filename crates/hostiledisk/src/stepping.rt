@@ -3,18 +3,18 @@ ghost use mathlib.Core.Path.{_≡_};
 ghost use mathlib.Core.Bool.{true};
 ghost use Prim.Native.Nat.{_≤_, _<_};
 ghost use lib.ListN.{length};
-ghost use Rattle.words.specs.Layout.{framed};
+ghost use Rattle.words.specs.Layout.{stateWords, framed};
 ghost use Rattle.hostiledisk.specs.Calls.{longEnough, brokenCode, hdStep, Framed, StepIs};
 use crate::arms;
 
 // A queue that steps have broken answers 3, and stays as it is.
 pub fn broken(state: &[usize]) -> usize
-    requires { ⌜ 52 ≤ length (now state) ⌝ }
+    requires { ⌜ stateWords ≤ length (now state) ⌝ }
     requires { ⌜ framed (now state) ≡ true ⌝ }
     ensures { λ r. ⌜ r ≡ brokenCode (now (state .entry)) ⌝ }
 {
     if state[42] == 8 {
-        if sane::broken_sane(state[34], state[48], state[43], state[44]) {
+        if sane::broken_sane(state[34], state[48], state[43], state[44], state[49]) {
             return 3;
         }
         return 4;
@@ -24,7 +24,7 @@ pub fn broken(state: &[usize]) -> usize
 
 // Are the slices as long as set-up was told?
 pub fn long_enough(state: &[usize], mem: usize, backing: usize, chain: usize, stage: usize) -> bool
-    requires { ⌜ 52 ≤ length (now state) ⌝ }
+    requires { ⌜ stateWords ≤ length (now state) ⌝ }
     ensures { λ r. ⌜ r ≡ longEnough (now (state .entry)) mem backing chain stage ⌝ }
 {
     if mem < state[1] {

@@ -42,6 +42,16 @@ put-same [] k bs h = refl
 put-same (x ∷ m) (suc k) bs h = ap (λ (l : List ℕ). x ∷ l) (put-same m k bs (omega arith))
 put-same (x ∷ m) zero bs h = refl
 
+-- .. nor does what is stored first where more is put
+pub put-over : (m : List ℕ) (k : ℕ) (bs : List ℕ) (i v : ℕ) → k ≤ i → i < k + length bs → put (set m i v) k bs ≡ put m k bs
+unfolding put
+put-over [] k bs i v a b = refl
+put-over (x ∷ m) (suc k) bs (suc i) v a b = ap (λ (l : List ℕ). x ∷ l) (put-over m k bs i v (omega arith) (omega arith))
+put-over (x ∷ m) (suc k) bs zero v a b = absurd (omega arith)
+put-over (x ∷ m) zero [] i v a b = absurd (omega arith)
+put-over (x ∷ m) zero (c ∷ bs) zero v a b = refl
+put-over (x ∷ m) zero (c ∷ bs) (suc i) v a b = ap (λ (l : List ℕ). c ∷ l) (put-over m zero bs i v (omega arith) (omega arith))
+
 pub put-below : (m : List ℕ) (k : ℕ) (bs : List ℕ) (i : ℕ) → i < k → getD (put m k bs) i 0 ≡ getD m i 0
 unfolding put
 put-below [] k bs i h = refl
@@ -186,6 +196,13 @@ pub put-more : (m : List ℕ) (k : ℕ) (s : List ℕ) (f a b : ℕ) → f + a �
 put-more m k s f a b h =
     let e : length (part f a s) ≡ a = length-part f a s h in
     rw (← (part-add f a b s)) (rw e at (put-put m k (part f a s) (part (f + a) b s)))
+
+-- what is put last where it lies already changes nothing
+pub put-same-last : (m : List ℕ) (k : ℕ) (bs : List ℕ) → k + length bs < length m → put m k (bs ++ (getD m (k + length bs) 0 ∷ [])) ≡ put m k bs
+put-same-last m k bs h =
+    let n = k + length bs in
+    let e : getD (put m k bs) n 0 ≡ getD m n 0 = put-above m k bs n (omega arith) in
+    sym (put-put m k bs (getD m n 0 ∷ [])) ∙ (rw e at (put-same (put m k bs) n [] (omega (arith, length-put m k bs)))) ∙ put-nil (put m k bs) (suc n)
 
 -- one store, then the rest behind it
 pub put-cons : (m : List ℕ) (k b : ℕ) (bs : List ℕ) → put m k (b ∷ bs) ≡ put (set m k b) (suc k) bs

@@ -50,17 +50,25 @@ tally k flags len =
 unfoldable pub held : List ℕ → ℕ → ℕ → ℕ → List ℕ
 held chain n place len = put chain (2 * n) (place ∷ len ∷ [])
 
--- "No writable buffer in the chain: reason 8"; S3: "chain complete: w = 0: broken 8 · r < 16: S6 (status 1) · else S4"
-unfoldable pub complete : Walk → Phase
-complete k =
-    pick (leb (k .count) (k .reads)) (Broken 8 (k .head) (k .count))
+-- "No writable buffer in the chain: reason 8"; S3: "chain complete: w = 0: broken 8 · r < 16: S6 (status 1) · else S4".
+-- DEV-12: "for 8 it is the last descriptor of the chain", which is number cur of the table
+unfoldable pub complete : Walk → ℕ → Phase
+complete k cur =
+    pick (leb (k .count) (k .reads)) (Broken 8 (k .head) (k .count) cur)
     (pick (ltb (k .r) 16) (Answer k Failed 0) (Header k (record { buf = 0; skip = 0 }) 0))
 
--- S3: a refused descriptor counts as fetched
-unfoldable pub described : Walk → Desc → Tested → Phase
-described k d (Bad n) = Broken n (k .head) (k .count + 1)
-described k d (Next x) = Chain (tally k (d .flags) (d .len)) (d .next)
-described k d (Last x) = complete (tally k (d .flags) (d .len))
+-- S3, at descriptor cur of the table: a refused descriptor counts as fetched.
+-- DEV-12: "on refusal, the number of the descriptor at which it stopped and how many it had fetched"
+unfoldable pub described : Walk → ℕ → Desc → Tested → Phase
+described k cur d (Bad n) = Broken n (k .head) (k .count + 1) cur
+described k cur d (Next x) = Chain (tally k (d .flags) (d .len)) (d .next)
+described k cur d (Last x) = complete (tally k (d .flags) (d .len)) cur
+
+-- DEV-12: "the number of descriptors of the last chain that was complete", n before this descriptor; "No NEXT: the chain is complete."
+unfoldable pub descsAfter : ℕ → Walk → Tested → ℕ
+descsAfter n k (Bad r) = n
+descsAfter n k (Next x) = n
+descsAfter n k (Last x) = k .count + 1
 
 unfoldable pub keeps : List ℕ → Walk → Desc → Tested → List ℕ
 keeps chain k d (Bad n) = chain

@@ -62,9 +62,13 @@ pending idx taken = (idx + 65536 - taken) % 65536
 unfoldable pub oneMore : ℕ → ℕ
 oneMore n = (n + 1) % 65536
 
+-- DEV-12: "65,536 where the queue is in order or broke elsewhere": no descriptor was refused
+abbrev pub elsewhere : ℕ
+elsewhere = 65536
+
 -- S1: "pending 0: stays (nothing to do) · pending over q: broken 1 · else S2"
 unfoldable pub polled : ℕ → ℕ → ℕ → Phase
-polled q taken idx = pick (eqb (pending idx taken) 0) Poll (pick (ltb q (pending idx taken)) (Broken 1 0 0) Entry)
+polled q taken idx = pick (eqb (pending idx taken) 0) Poll (pick (ltb q (pending idx taken)) (Broken 1 0 0 elsewhere) Entry)
 
 -- a chain of which no descriptor is fetched yet
 abbrev pub fresh : ℕ → Walk
@@ -72,4 +76,4 @@ fresh head = record { head = head; count = 0; reads = 0; r = 0; w = 0 }
 
 -- S2: "q or more: broken 2 · else S3 at the head"
 unfoldable pub headed : ℕ → ℕ → Phase
-headed q head = pick (leb q head) (Broken 2 0 0) (Chain (fresh head) head)
+headed q head = pick (leb q head) (Broken 2 0 0 elsewhere) (Chain (fresh head) head)

@@ -6,6 +6,7 @@ use mathlib.Core.List.{List, [], _∷_}
 use lib.Dec.{leb, ltb, eqb}
 use lib.ListN.{getD}
 use Rattle.model.specs.Pick.{pick, both}
+use Rattle.model.specs.Ring.{elsewhere}
 use Rattle.model.specs.Request.{fits}
 use Rattle.model.specs.Step.{Span, left, writables}
 use Rattle.model.specs.declared.Disk.{Disk}
@@ -35,6 +36,10 @@ jobOk sectors k (Read s) = fits (k .w - 1) s sectors
 jobOk sectors k (Write s) = false
 jobOk sectors k Identity = eqb (k .w) 21
 
+-- DEV-12: a descriptor of the table, if one was fetched
+unfoldable pub refusedAt : ℕ → ℕ → ℕ → Bool
+refusedAt q count at = pick (eqb count 0) (eqb at elsewhere) (ltb at q)
+
 unfoldable pub sane : ℕ → ℕ → Phase → Bool
 sane q sectors Poll = true
 sane q sectors Entry = true
@@ -43,7 +48,7 @@ sane q sectors (Header k p got) = both (fullOk q k) (both (ltb (p .buf) (k .read
 sane q sectors (Payload k p s got) = both (fullOk q k) (both (ltb (p .buf) (k .reads)) (both (ltb 16 (k .r)) (both (ltb got (k .r - 16)) (fits (k .r - 16) s sectors))))
 sane q sectors (Answer k job got) = both (fullOk q k) (both (leb got (k .r)) (jobOk sectors k job))
 sane q sectors (Publish k got) = both (fullOk q k) (leb got (k .r))
-sane q sectors (Broken reason head count) = both (leb 1 reason) (both (leb reason 8) (both (ltb head q) (leb count (q + 1))))
+sane q sectors (Broken reason head count at) = both (leb 1 reason) (both (leb reason 8) (both (ltb head q) (both (leb count (q + 1)) (refusedAt q count at))))
 
 -- a buffer in a slice of m bytes
 unfoldable pub inside : ℕ → ℕ → ℕ → Bool
@@ -65,4 +70,4 @@ ready m chain (Header k p got) = placeOk m chain p
 ready m chain (Payload k p s got) = both (placeOk m chain p) (leb (got + left chain p .len) (k .r - 16))
 ready m chain (Answer k job got) = both (allInside m (writables chain k)) (leb 1 (getD chain (2 * (k .count - 1) + 1) 0))
 ready m chain (Publish k got) = true
-ready m chain (Broken reason head count) = true
+ready m chain (Broken reason head count at) = true

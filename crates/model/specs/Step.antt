@@ -8,7 +8,7 @@ use Rattle.model.specs.Pick.{pick, both}
 use Rattle.model.specs.Bytes.{put, part, word, bytes}
 use Rattle.model.specs.Memory.{Region}
 use Rattle.model.specs.Ring.{polled, headed, oneMore}
-use Rattle.model.specs.Chain.{descAt, tested, described, keeps}
+use Rattle.model.specs.Chain.{descAt, tested, described, descsAfter, keeps}
 use Rattle.model.specs.Request.{fits, verdict, status, reported, decided}
 use Rattle.model.specs.declared.Queue.{Queue}
 use Rattle.model.specs.declared.Disk.{Disk}
@@ -26,10 +26,11 @@ pub record Cfg : Type 0 where
   pub id : List ℕ
   pub queue : Queue
 
--- what steps change
+-- what steps change; descs is the number of descriptors of the last chain that was complete, 0 before the first (DEV-12)
 pub record State : Type 0 where
   pub taken : ℕ
   pub answered : ℕ
+  pub descs : ℕ
   pub phase : Phase
 
 -- a range of a slice
@@ -68,7 +69,7 @@ want c taken chain (Header k p got) = record { at = left chain p .at; len = lack
 want c taken chain (Payload k p sector got) = left chain p
 want c taken chain (Answer k job got) = nowhere
 want c taken chain (Publish k got) = nowhere
-want c taken chain (Broken reason head count) = nowhere
+want c taken chain (Broken reason head count at) = nowhere
 
 -- The header is gathered in the first 16 bytes of staging memory.
 -- S4: "header not complete: S4 at the next buffer · complete: decide", n bytes of l having been fetched; type and sector are the header's
@@ -84,13 +85,13 @@ paid k p sector got l = pick (ends k got l) (Answer k Done (k .r)) (Payload k (r
 unfoldable pub next : Cfg → ℕ → List ℕ → List ℕ → Phase → List ℕ → Phase
 next c taken chain stage Poll f = polled (c .queue .size) taken (word 2 0 f)
 next c taken chain stage Entry f = headed (c .queue .size) (word 2 0 f)
-next c taken chain stage (Chain k cur) f = described k (descAt 0 f) (tested (c .map) (c .queue .size) k (descAt 0 f))
+next c taken chain stage (Chain k cur) f = described k cur (descAt 0 f) (tested (c .map) (c .queue .size) k (descAt 0 f))
 next c taken chain stage (Header k p got) f =
     gathered (c .disk) k p got (left chain p .len) (lacks got (left chain p .len)) (word 4 0 (put stage got f)) (word 8 8 (put stage got f))
 next c taken chain stage (Payload k p sector got) f = paid k p sector got (left chain p .len)
 next c taken chain stage (Answer k job got) f = Publish k got
 next c taken chain stage (Publish k got) f = Poll
-next c taken chain stage (Broken reason head count) f = Broken reason head count
+next c taken chain stage (Broken reason head count at) f = Broken reason head count at
 
 -- What a step keeps in private memory: the chain (S3), and the staging memory (S4; S5 unless the buffer is the payload's last).
 unfoldable pub chained : Cfg → List ℕ → Phase → List ℕ → List ℕ
@@ -101,7 +102,18 @@ chained c chain (Header k p got) f = chain
 chained c chain (Payload k p sector got) f = chain
 chained c chain (Answer k job got) f = chain
 chained c chain (Publish k got) f = chain
-chained c chain (Broken reason head count) f = chain
+chained c chain (Broken reason head count at) f = chain
+
+-- How many descriptors the last complete chain has: S3 alone completes one.
+unfoldable pub measured : Cfg → ℕ → Phase → List ℕ → ℕ
+measured c n Poll f = n
+measured c n Entry f = n
+measured c n (Chain k cur) f = descsAfter n k (tested (c .map) (c .queue .size) k (descAt 0 f))
+measured c n (Header k p got) f = n
+measured c n (Payload k p sector got) f = n
+measured c n (Answer k job got) f = n
+measured c n (Publish k got) f = n
+measured c n (Broken reason head count at) f = n
 
 unfoldable pub staged : List ℕ → List ℕ → Phase → List ℕ → List ℕ
 staged chain stage Poll f = stage
@@ -111,7 +123,7 @@ staged chain stage (Header k p got) f = put stage got f
 staged chain stage (Payload k p sector got) f = pick (ends k got (left chain p .len)) stage (put stage got f)
 staged chain stage (Answer k job got) f = stage
 staged chain stage (Publish k got) f = stage
-staged chain stage (Broken reason head count) f = stage
+staged chain stage (Broken reason head count at) f = stage
 
 -- What a step does to the world. "The disk changes in one step of an accepted OUT, the S5 that fetches its last payload buffer."
 pub data Effect : Type 0 where
@@ -128,7 +140,7 @@ effect chain stage (Header k p got) f = nothing
 effect chain stage (Payload k p sector got) f = pick (ends k got (left chain p .len)) (stores (512 * sector) (part 0 got stage ++ f)) nothing
 effect chain stage (Answer k job got) f = answers k job
 effect chain stage (Publish k got) f = publishes
-effect chain stage (Broken reason head count) f = nothing
+effect chain stage (Broken reason head count at) f = nothing
 
 -- Writes as data: later ones win (01 §5).
 pub record Store : Type 0 where
@@ -212,7 +224,7 @@ codeAfter (Header k p got) = 1
 codeAfter (Payload k p sector got) = 1
 codeAfter (Answer k job got) = 1
 codeAfter (Publish k got) = 1
-codeAfter (Broken reason head count) = 3
+codeAfter (Broken reason head count at) = 3
 
 unfoldable pub codeOf : Effect → Phase → ℕ
 codeOf nothing p = codeAfter p
@@ -236,7 +248,7 @@ fetched c s chain mem = part (want c (s .taken) chain (s .phase) .at) (want c (s
 unfoldable pub stepWith : Cfg → State → List ℕ → List ℕ → List ℕ → List ℕ → List ℕ → Effect → Phase → Out
 stepWith c s mem backing chain stage f e p =
     record {
-      state = record { taken = counted e (s .taken); answered = counted e (s .answered); phase = p };
+      state = record { taken = counted e (s .taken); answered = counted e (s .answered); descs = measured c (s .descs) (s .phase) f; phase = p };
       mem = apply (memStores c (s .answered) chain (diskOf (c .disk) backing) e) mem;
       backing = shifted (c .disk .start) (diskStores e) backing;
       chain = chained c chain (s .phase) f;

@@ -68,7 +68,8 @@ pub enum Job {
     Identity,
 }
 
-// The step that comes next (S1 to S7), and what it needs to know. Broken: the reason, the head and the descriptors fetched.
+// The step that comes next (S1 to S7), and what it needs to know. Broken: the reason, the head, the descriptors fetched,
+// and the number of the one at which the chain was refused, 65,536 where none was (DEV-12).
 pub enum Phase {
     Poll,
     Entry,
@@ -77,5 +78,11 @@ pub enum Phase {
     Payload(Walk, Place, usize, usize),
     Answer(Walk, Job, usize),
     Publish(Walk, usize),
-    Broken(usize, usize, usize),
+    Broken(usize, usize, usize, usize),
+}
+
+// What S3 answers: the step that comes next, and how many descriptors the last complete chain has (DEV-12).
+pub struct Linked {
+    pub phase: Phase,
+    pub descs: usize,
 }

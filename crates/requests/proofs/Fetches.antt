@@ -50,29 +50,29 @@ ahead-len : (chain : List ℕ) (p : Place) (s : Span) (ss : List Span) → Ahead
 unfolding Ahead
 ahead-len chain p s ss w = w .1
 
-module _ (c : Cfg) (g : ℕ → List ℕ → List ℕ) (mems : ℕ → List ℕ) (m : ℕ) (F : ℕ → Out → Type 0) (t a : ℕ) (b chain : List ℕ) (k : Walk) where
+module _ (c : Cfg) (g : ℕ → List ℕ → List ℕ) (mems : ℕ → List ℕ) (m : ℕ) (F : ℕ → Out → Type 0) (t a descs : ℕ) (b chain : List ℕ) (k : Walk) where
   -- what is to come after the header: S4 has made its decision at this place, with these bytes staged
   unfoldable pub Decides : List ℕ → ℕ → List ℕ → List Span → Type 0
   Decides stage i hs rest =
       (p : Place) (code : ℕ) → code ≡ 1 → Ahead chain p rest
-      → Leads c g F (suc i) (out t a (decided k p (verdict (c .disk) (word 4 0 (put stage 0 hs)) (word 8 8 (put stage 0 hs)) (k .r) (k .w))) (mems i) b chain (put stage 0 hs) code)
+      → Leads c g F (suc i) (out t a descs (decided k p (verdict (c .disk) (word 4 0 (put stage 0 hs)) (word 8 8 (put stage 0 hs)) (k .r) (k .w))) (mems i) b chain (put stage 0 hs) code)
 
   -- S4 at a buffer of which n bytes are the header's
   header-takes : Beside c g mems m → (s : Span) (ss : List Span) (stage hs : List ℕ) (p : Place) (i code n : ℕ) → code ≡ 1 → min (16 - length hs) (s .len) ≡ n → Ahead chain p (s ∷ ss)
       → ((code : ℕ) → code ≡ 1 → Leads c g F (suc (suc i))
-      (out t a
+      (out t a descs
       (gathered (c .disk) k p (length hs) (s .len) n (word 4 0 (put stage 0 (hs ++ part (s .at) n (mems (suc i))))) (word 8 8 (put stage 0 (hs ++ part (s .at) n (mems (suc i))))))
       (mems (suc i)) b chain (put stage 0 (hs ++ part (s .at) n (mems (suc i)))) code))
-      → Leads c g F (suc i) (out t a (Header k p (length hs)) (mems i) b chain (put stage 0 hs) code)
+      → Leads c g F (suc i) (out t a descs (Header k p (length hs)) (mems i) b chain (put stage 0 hs) code)
   header-takes e s ss stage hs p i code n q h w f =
       let x = ahead-at chain p s ss w in
       let y = ahead-len chain p s ss w in
-      header-turn c g mems F t a b i k p (length hs) chain (put stage 0 hs) code q (e .goes-on i) (part (s .at) n (mems (suc i))) (rw (x, y, h))
+      header-turn c g mems F t a descs b i k p (length hs) chain (put stage 0 hs) code q (e .goes-on i) (part (s .at) n (mems (suc i))) (rw (x, y, h))
       (λ code q. rw (y, h, stage-more) (f code q))
 
   pub headed : Beside c g mems m → (ss : List Span) (stage hs : List ℕ) (p : Place) (i code : ℕ) → code ≡ 1 → length hs < 16 → 16 - length hs ≤ total ss → Inside m ss → Ahead chain p ss
       → Decides stage (i + length (upTo (16 - length hs) ss)) (hs ++ gatherFrom mems (suc i) (upTo (16 - length hs) ss)) (past (16 - length hs) ss)
-      → Leads c g F (suc i) (out t a (Header k p (length hs)) (mems i) b chain (put stage 0 hs) code)
+      → Leads c g F (suc i) (out t a descs (Header k p (length hs)) (mems i) b chain (put stage 0 hs) code)
   unfolding total Inside Decides upTo past gatherFrom gathered onward
   headed e [] stage hs p i code q l h n w d = absurd (omega arith)
   headed e (s ∷ ss) stage hs p i code q l h n w d =
@@ -85,8 +85,8 @@ module _ (c : Cfg) (g : ℕ → List ℕ → List ℕ) (mems : ℕ → List ℕ)
           (pick v (pick (eqb (16 - length hs) (s .len)) ss (record { at = s .at + (16 - length hs); len = s .len - (16 - length hs) } ∷ ss)) (past (16 - length hs - s .len) ss))
           → ((bs : List ℕ) (code : ℕ) → code ≡ 1 → length (hs ++ bs) < 16 → 16 - length (hs ++ bs) ≤ total ss
           → Decides stage (suc i + length (upTo (16 - length (hs ++ bs)) ss)) ((hs ++ bs) ++ gatherFrom mems (suc (suc i)) (upTo (16 - length (hs ++ bs)) ss)) (past (16 - length (hs ++ bs)) ss)
-          → Leads c g F (suc (suc i)) (out t a (Header k (record { buf = p .buf + 1; skip = 0 }) (length (hs ++ bs))) (mems (suc i)) b chain (put stage 0 (hs ++ bs)) code))
-          → Leads c g F (suc i) (out t a (Header k p (length hs)) (mems i) b chain (put stage 0 hs) code)
+          → Leads c g F (suc (suc i)) (out t a descs (Header k (record { buf = p .buf + 1; skip = 0 }) (length (hs ++ bs))) (mems (suc i)) b chain (put stage 0 (hs ++ bs)) code))
+          → Leads c g F (suc i) (out t a descs (Header k p (length hs)) (mems i) b chain (put stage 0 hs) code)
       go true v d ih =
           let le = leb-true (16 - length hs) (s .len) v in
           let o : i + 1 ≡ suc i = omega arith in
@@ -112,8 +112,8 @@ module _ (c : Cfg) (g : ℕ → List ℕ → List ℕ) (mems : ℕ → List ℕ)
   pub paid-out : Beside c g mems m → (s : Span) (ss : List Span) (stage hs : List ℕ) (p : Place) (sector i code : ℕ) → code ≡ 1 → length hs + total (s ∷ ss) ≡ k .r - 16 → k .r - 16 ≤ length stage
       → Inside m (s ∷ ss) → Ahead chain p (s ∷ ss)
       → ((stage : List ℕ) (code : ℕ) → code ≡ 1 → Leads c g F (suc (i + length (s ∷ ss)))
-      (out t a (Answer k Done (k .r)) (mems (i + length (s ∷ ss))) (put b (c .disk .start + 512 * sector) (hs ++ gatherFrom mems (suc i) (s ∷ ss))) chain stage code))
-      → Leads c g F (suc i) (out t a (Payload k p sector (length hs)) (mems i) b chain (put stage 0 hs) code)
+      (out t a descs (Answer k Done (k .r)) (mems (i + length (s ∷ ss))) (put b (c .disk .start + 512 * sector) (hs ++ gatherFrom mems (suc i) (s ∷ ss))) chain stage code))
+      → Leads c g F (suc i) (out t a descs (Payload k p sector (length hs)) (mems i) b chain (put stage 0 hs) code)
   unfolding total Inside gatherFrom
   paid-out e s [] stage hs p sector i code q h r n w f =
       let bs : List ℕ = part (s .at) (s .len) (mems (suc i)) in
@@ -121,7 +121,7 @@ module _ (c : Cfg) (g : ℕ → List ℕ → List ℕ) (mems : ℕ → List ℕ)
       let y = ahead-len chain p s [] w in
       let o : i + 1 ≡ suc i = omega arith in
       let u : part 0 (length hs) (put stage 0 hs) ≡ hs = part-put stage 0 (length hs) hs refl (omega arith) in
-      payload-last c g mems F t a b i k p sector (length hs) chain (put stage 0 hs) code q (e .goes-on i) bs (rw (x, y))
+      payload-last c g mems F t a descs b i k p sector (length hs) chain (put stage 0 hs) code q (e .goes-on i) bs (rw (x, y))
       (ends-when p (length hs) true (eq-eqb (length hs + left chain p .len) (k .r - 16) (omega arith)))
       (λ code q. rw u ((rw (o, append-nil) at f) (put stage 0 hs) code q))
   paid-out e s (s₂ ∷ ss) stage hs p sector i code q h r n w f =
@@ -132,7 +132,7 @@ module _ (c : Cfg) (g : ℕ → List ℕ → List ℕ) (mems : ℕ → List ℕ)
       let lh : length (hs ++ bs) ≡ length hs + s .len = length-append hs bs ∙ ap (λ (x : ℕ). length hs + x) lb in
       let o : i + suc (suc (length ss)) ≡ suc i + suc (length ss) = omega arith in
       let one = n .2 .0 in
-      payload-turn c g mems F t a b i k p sector (length hs) chain (put stage 0 hs) code q (e .goes-on i) bs (rw (x, y))
+      payload-turn c g mems F t a descs b i k p sector (length hs) chain (put stage 0 hs) code q (e .goes-on i) bs (rw (x, y))
       (ends-when p (length hs) false (ne-eqb (length hs + left chain p .len) (k .r - 16) (λ z. omega arith)))
       (λ code q. rw (y, stage-more, ← lh)
       (paid-out e s₂ ss stage (hs ++ bs) (record { buf = p .buf + 1; skip = 0 }) sector (suc i) code q (omega arith) r (n .2)

@@ -9,7 +9,7 @@ use lib.ListN.{length, length-append}
 use borrow.Author.Tests.{leb-false, ltb-false, eqb-false}
 use Rattle.model.specs.Pick.{both}
 use Rattle.model.specs.Memory.{Region, locate, sound}
-use Rattle.model.specs.Chain.{descAt, testedBy, tested, tally, held, complete, described, keeps}
+use Rattle.model.specs.Chain.{descAt, testedBy, tested, tally, held, complete, described, descsAfter, keeps}
 use Rattle.model.specs.Step.{Cfg, Span, Out, spans, codeAfter}
 use Rattle.model.specs.declared.Found.{Found}
 use Rattle.model.specs.declared.Found.the-variants.{At, Nothing}
@@ -19,6 +19,7 @@ use Rattle.model.specs.declared.Tested.the-variants.{Bad, Next, Last}
 use Rattle.model.specs.declared.Phase.the-variants.{Chain, Broken}
 use Rattle.model.proofs.Lists.{length-put}
 use Rattle.model.proofs.Memory.{locate-slice}
+use Rattle.model.proofs.Chain.{bad-reason}
 use Rattle.requests.specs.Serve.{total, walk, Followed, broke, whole, linked, follow}
 use Rattle.requests.specs.Guest.{out, changing}
 use Rattle.requests.proofs.Spans.{spans-keep, spans-push, total-append, Inside, inside-push}
@@ -67,8 +68,8 @@ record Join (m q head : ℕ) (chain : List ℕ) (rs ws : List Span) (d : Desc) (
   writes : List Span
   longer : length reads + length writes ≡ length rs + length ws + 1
   tallied : tally (walk head rs ws) (d .flags) (d .len) ≡ walk head reads writes
-  next-is : (more : ℕ → List Span → List Span → Followed) → linked more d rs ws (Next x) ≡ more (d .next) reads writes
-  last-is : (more : ℕ → List Span → List Span → Followed) → linked more d rs ws (Last x) ≡ whole reads writes
+  next-is : (more : ℕ → List Span → List Span → Followed) (n : ℕ) → linked more n d rs ws (Next x) ≡ more (d .next) reads writes
+  last-is : (more : ℕ → List Span → List Span → Followed) (n : ℕ) → linked more n d rs ws (Last x) ≡ whole reads writes n
   held-is : Held m q (held chain (length rs + length ws) x (d .len)) reads writes
 
 join-write : (m q head : ℕ) (chain : List ℕ) (rs ws : List Span) (d : Desc) (x : ℕ) → ltb (d .flags) 2 ≡ false
@@ -85,8 +86,8 @@ join-write m q head chain rs ws d x e h l k hd =
       writes = ws ++ (s ∷ []);
       longer = omega arith;
       tallied = rw (e, n, u, j);
-      next-is = λ more. rw e;
-      last-is = λ more. rw e;
+      next-is = λ more n. rw e;
+      last-is = λ more n. rw e;
       held-is = record {
         reads-are = spans-keep (length rs) 0 chain (length rs + length ws) (x ∷ d .len ∷ []) (omega arith) ∙ hd .reads-are;
         writes-are = spans-push ws (length rs) chain x (d .len) (hd .writes-are) (omega (arith, hd .room));
@@ -112,8 +113,8 @@ join-read m q head chain rs [] d x e z h l k hd =
       writes = [];
       longer = omega arith;
       tallied = rw (e, n, u, j);
-      next-is = λ more. rw e;
-      last-is = λ more. rw e;
+      next-is = λ more n. rw e;
+      last-is = λ more n. rw e;
       held-is = record {
         reads-are = rw o (spans-push rs 0 chain x (d .len) (hd .reads-are) (omega (arith, hd .room)));
         writes-are = refl;
@@ -140,34 +141,36 @@ join m q head map chain rs ws d x s p hd = go (ltb (d .flags) 2) refl (p .in-ord
         let n = eqb-false (d .len) 0 (p .some-bytes) in
         join-write m q head chain rs ws d x e (omega arith) (omega arith) (locate-slice m map (d .addr) (d .len) x s (p .located)) hd
 
-module _ (c : Cfg) (g : ℕ → List ℕ → List ℕ) (mems : ℕ → List ℕ) (m : ℕ) (F : ℕ → Out → Type 0) (t a : ℕ) (b stage : List ℕ) (head : ℕ) where
-  -- what is to come after the chain: a break leads on, and so does a whole chain with its buffers held
+module _ (c : Cfg) (g : ℕ → List ℕ → List ℕ) (mems : ℕ → List ℕ) (m : ℕ) (F : ℕ → Out → Type 0) (t a descs : ℕ) (b stage : List ℕ) (head : ℕ) where
+  -- what is to come after the chain: a break leads on, the last complete chain being the one before; and so does a whole chain with its buffers held,
+  -- which now is the last complete one
   unfoldable pub Goes : Followed → Type 0
-  Goes (broke reason n) = (i : ℕ) (chain : List ℕ) → suc i ≡ 2 + n → Leads c g F (suc i) (out t a (Broken reason head n) (mems i) b chain stage 3)
-  Goes (whole rs ws) =
+  Goes (broke reason n at) =
+      (i : ℕ) (chain : List ℕ) → suc i ≡ 2 + n → reason ≤ 7 → Leads c g F (suc i) (out t a descs (Broken reason head n at) (mems i) b chain stage 3)
+  Goes (whole rs ws last) =
       (i : ℕ) (chain : List ℕ) → suc i ≡ 2 + (length rs + length ws) → Held m (c .queue .size) chain rs ws
-      → Leads c g F (suc i) (out t a (complete (walk head rs ws)) (mems i) b chain stage (codeAfter (complete (walk head rs ws))))
+      → Leads c g F (suc i) (out t a (length rs + length ws) (complete (walk head rs ws) last) (mems i) b chain stage (codeAfter (complete (walk head rs ws) last)))
 
   -- from a chain of which these buffers are held, at most f descriptors more
   unfoldable pub Takes : ℕ → Type 0
   Takes f =
       (n : ℕ) (rs ws : List Span) (i : ℕ) (chain : List ℕ) (code : ℕ) → code ≡ 1 → suc i ≡ 2 + (length rs + length ws) → f + (length rs + length ws) ≡ suc (c .queue .size)
       → length rs + length ws ≤ c .queue .size → Held m (c .queue .size) chain rs ws → Goes (follow c (changing (c .queue) t mems) head f n rs ws)
-      → Leads c g F (suc i) (out t a (Chain (walk head rs ws) n) (mems i) b chain stage code)
+      → Leads c g F (suc i) (out t a descs (Chain (walk head rs ws) n) (mems i) b chain stage code)
 
   one-more : Beside c g mems m → (f : ℕ) → Takes f → Takes (suc f)
-  unfolding Takes Goes follow changing tested walk described keeps linked codeAfter
+  unfolding Takes Goes follow changing tested walk described descsAfter keeps linked codeAfter
   one-more e f ih n rs ws i chain code q h s l hd k =
       let d : Desc = descAt (c .queue .desc + 16 * n) (mems (2 + (length rs + length ws))) in
-      chain-turn c g mems F t a b i (walk head rs ws) n chain stage code q (e .goes-on i) d (rw h)
+      chain-turn c g mems F t a descs b i (walk head rs ws) n chain stage code q (e .goes-on i) d (rw h)
       (go d (tested (c .map) (c .queue .size) (walk head rs ws) d) refl k)
     where
       more : ℕ → List Span → List Span → Followed
       more = λ j xs ys. follow c (changing (c .queue) t mems) head f j xs ys
 
-      go : (d : Desc) (x : Tested) → tested (c .map) (c .queue .size) (walk head rs ws) d ≡ x → Goes (linked more d rs ws x)
-          → Leads c g F (suc (suc i)) (out t a (described (walk head rs ws) d x) (mems (suc i)) b (keeps chain (walk head rs ws) d x) stage (codeAfter (described (walk head rs ws) d x)))
-      go d (Bad r) u k = k (suc i) chain (omega arith)
+      go : (d : Desc) (x : Tested) → tested (c .map) (c .queue .size) (walk head rs ws) d ≡ x → Goes (linked more n d rs ws x)
+          → Leads c g F (suc (suc i)) (out t a (descsAfter descs (walk head rs ws) x) (described (walk head rs ws) n d x) (mems (suc i)) b (keeps chain (walk head rs ws) d x) stage (codeAfter (described (walk head rs ws) n d x)))
+      go d (Bad r) u k = k (suc i) chain (omega arith) (bad-reason (leb (c .queue .size) (length rs + length ws)) _ _ _ _ _ _ r u .1)
       go d (Next x) u k =
           let p = passed-next (leb (c .queue .size) (length rs + length ws)) _ _ _ _ _ _ x u in
           let j = join m (c .queue .size) head (c .map) chain rs ws d x (e .map-sound) p hd in
@@ -175,12 +178,12 @@ module _ (c : Cfg) (g : ℕ → List ℕ → List ℕ) (mems : ℕ → List ℕ)
           let z = j .longer in
           rw (j .tallied)
           (ih (d .next) (j .reads) (j .writes) (suc i) (held chain (length rs + length ws) x (d .len)) 1 refl (omega arith) (omega arith) (omega arith) (j .held-is)
-          (rw (j .next-is more) at k))
+          (rw (j .next-is more n) at k))
       go d (Last x) u k =
           let p = passed-last (leb (c .queue .size) (length rs + length ws)) _ _ _ _ _ _ x u in
           let j = join m (c .queue .size) head (c .map) chain rs ws d x (e .map-sound) p hd in
           let z = j .longer in
-          rw (j .tallied) ((rw (j .last-is more) at k) (suc i) (held chain (length rs + length ws) x (d .len)) (omega arith) (j .held-is))
+          rw (← z, j .tallied) ((rw (j .last-is more n) at k) (suc i) (held chain (length rs + length ws) x (d .len)) (omega arith) (j .held-is))
 
   pub takes-chain : Beside c g mems m → (f : ℕ) → Takes f
   unfolding Takes

@@ -10,9 +10,9 @@ use lib.ListN.{length}
 use Rattle.model.specs.Bytes.{put, part, word, bytes}
 use Rattle.model.specs.Memory.{sound}
 use Rattle.model.specs.Ring.{oneMore, polled, headed}
-use Rattle.model.specs.Chain.{descAt, tested, described, keeps}
+use Rattle.model.specs.Chain.{descAt, tested, described, descsAfter, keeps}
 use Rattle.model.specs.Request.{verdict, decided}
-use Rattle.model.specs.Step.{Cfg, Out, left, lacks, onward, ends, paid, gathered, want, next, chained, staged, effect, memStores, answerStores, diskStores, diskOf, shifted, apply, counted, codeOf, codeAfter, stepWith, step}
+use Rattle.model.specs.Step.{Cfg, Out, left, lacks, onward, ends, paid, gathered, want, next, chained, measured, staged, effect, memStores, answerStores, diskStores, diskOf, shifted, apply, counted, codeOf, codeAfter, stepWith, step}
 use Rattle.model.specs.declared.Disk.{Disk}
 use Rattle.model.specs.declared.Desc.{Desc}
 use Rattle.model.specs.declared.Walk.{Walk}
@@ -79,63 +79,63 @@ unfolding gathered codeAfter
 gathered-quiet d k p got l n type sector =
     on (λ (x : Phase). codeAfter x ≡ 1) (ltb (got + n) 16) (λ e. refl) (λ e. decided-quiet k (onward p l n) (verdict d type sector (k .r) (k .w)))
 
-module _ (c : Cfg) (g : ℕ → List ℕ → List ℕ) (mems : ℕ → List ℕ) (F : ℕ → Out → Type 0) (t a : ℕ) (b : List ℕ) where
+module _ (c : Cfg) (g : ℕ → List ℕ → List ℕ) (mems : ℕ → List ℕ) (F : ℕ → Out → Type 0) (t a descs : ℕ) (b : List ℕ) where
   pub poll-turn : (m chain stage : List ℕ) (code : ℕ) → g 0 m ≡ mems 0
-      → Leads c g F 1 (out t a (polled (c .queue .size) t (word 2 (c .queue .avail + 2) (mems 0))) (mems 0) b chain stage (codeAfter (polled (c .queue .size) t (word 2 (c .queue .avail + 2) (mems 0)))))
-      → Leads c g F 1 (again c g 0 (out t a Poll m b chain stage code))
-  unfolding again step stepWith want next chained staged effect memStores diskStores shifted apply counted codeOf
+      → Leads c g F 1 (out t a descs (polled (c .queue .size) t (word 2 (c .queue .avail + 2) (mems 0))) (mems 0) b chain stage (codeAfter (polled (c .queue .size) t (word 2 (c .queue .avail + 2) (mems 0)))))
+      → Leads c g F 1 (again c g 0 (out t a descs Poll m b chain stage code))
+  unfolding again step stepWith want next chained measured staged effect memStores diskStores shifted apply counted codeOf
   poll-turn m chain stage code e f = rw (e, word-two) f
 
   pub entry-turn : (chain stage : List ℕ) (code : ℕ) → code ≡ 1 → g 1 (mems 0) ≡ mems 1
-      → Leads c g F 2 (out t a (headed (c .queue .size) (word 2 (c .queue .avail + (4 + 2 * (t % c .queue .size))) (mems 1))) (mems 1) b chain stage (codeAfter (headed (c .queue .size) (word 2 (c .queue .avail + (4 + 2 * (t % c .queue .size))) (mems 1)))))
-      → Leads c g F 1 (out t a Entry (mems 0) b chain stage code)
-  unfolding again step stepWith want next chained staged effect memStores diskStores shifted apply counted codeOf
-  entry-turn chain stage code q e f = turn 1 (out t a Entry (mems 0) b chain stage code) q (rw (e, word-two) f)
+      → Leads c g F 2 (out t a descs (headed (c .queue .size) (word 2 (c .queue .avail + (4 + 2 * (t % c .queue .size))) (mems 1))) (mems 1) b chain stage (codeAfter (headed (c .queue .size) (word 2 (c .queue .avail + (4 + 2 * (t % c .queue .size))) (mems 1)))))
+      → Leads c g F 1 (out t a descs Entry (mems 0) b chain stage code)
+  unfolding again step stepWith want next chained measured staged effect memStores diskStores shifted apply counted codeOf
+  entry-turn chain stage code q e f = turn 1 (out t a descs Entry (mems 0) b chain stage code) q (rw (e, word-two) f)
 
   pub chain-turn : (i : ℕ) (k : Walk) (n : ℕ) (chain stage : List ℕ) (code : ℕ) → code ≡ 1 → g (suc i) (mems i) ≡ mems (suc i) → (d : Desc)
       → descAt (c .queue .desc + 16 * n) (mems (suc i)) ≡ d
       → Leads c g F (suc (suc i))
-      (out t a (described k d (tested (c .map) (c .queue .size) k d)) (mems (suc i)) b (keeps chain k d (tested (c .map) (c .queue .size) k d)) stage (codeAfter (described k d (tested (c .map) (c .queue .size) k d))))
-      → Leads c g F (suc i) (out t a (Chain k n) (mems i) b chain stage code)
-  unfolding again step stepWith want next chained staged effect memStores diskStores shifted apply counted codeOf
-  chain-turn i k n chain stage code q e d h f = turn (suc i) (out t a (Chain k n) (mems i) b chain stage code) q (rw (e, desc-part, h) f)
+      (out t a (descsAfter descs k (tested (c .map) (c .queue .size) k d)) (described k n d (tested (c .map) (c .queue .size) k d)) (mems (suc i)) b (keeps chain k d (tested (c .map) (c .queue .size) k d)) stage (codeAfter (described k n d (tested (c .map) (c .queue .size) k d))))
+      → Leads c g F (suc i) (out t a descs (Chain k n) (mems i) b chain stage code)
+  unfolding again step stepWith want next chained measured staged effect memStores diskStores shifted apply counted codeOf
+  chain-turn i k n chain stage code q e d h f = turn (suc i) (out t a descs (Chain k n) (mems i) b chain stage code) q (rw (e, desc-part, h) f)
 
   pub header-turn : (i : ℕ) (k : Walk) (p : Place) (got : ℕ) (chain stage : List ℕ) (code : ℕ) → code ≡ 1 → g (suc i) (mems i) ≡ mems (suc i) → (bs : List ℕ)
       → part (left chain p .at) (lacks got (left chain p .len)) (mems (suc i)) ≡ bs
       → ((code : ℕ) → code ≡ 1 → Leads c g F (suc (suc i))
-      (out t a (gathered (c .disk) k p got (left chain p .len) (lacks got (left chain p .len)) (word 4 0 (put stage got bs)) (word 8 8 (put stage got bs)))
+      (out t a descs (gathered (c .disk) k p got (left chain p .len) (lacks got (left chain p .len)) (word 4 0 (put stage got bs)) (word 8 8 (put stage got bs)))
       (mems (suc i)) b chain (put stage got bs) code))
-      → Leads c g F (suc i) (out t a (Header k p got) (mems i) b chain stage code)
-  unfolding again step stepWith want next chained staged effect memStores diskStores shifted apply counted codeOf
+      → Leads c g F (suc i) (out t a descs (Header k p got) (mems i) b chain stage code)
+  unfolding again step stepWith want next chained measured staged effect memStores diskStores shifted apply counted codeOf
   header-turn i k p got chain stage code q e bs h f =
-      turn (suc i) (out t a (Header k p got) (mems i) b chain stage code) q (rw (e, h) (f _ (gathered-quiet (c .disk) k p got (left chain p .len) (lacks got (left chain p .len)) (word 4 0 (put stage got bs)) (word 8 8 (put stage got bs)))))
+      turn (suc i) (out t a descs (Header k p got) (mems i) b chain stage code) q (rw (e, h) (f _ (gathered-quiet (c .disk) k p got (left chain p .len) (lacks got (left chain p .len)) (word 4 0 (put stage got bs)) (word 8 8 (put stage got bs)))))
 
   -- a buffer that is not the payload's last ..
   pub payload-turn : (i : ℕ) (k : Walk) (p : Place) (sector got : ℕ) (chain stage : List ℕ) (code : ℕ) → code ≡ 1 → g (suc i) (mems i) ≡ mems (suc i) → (bs : List ℕ)
       → part (left chain p .at) (left chain p .len) (mems (suc i)) ≡ bs → ends k got (left chain p .len) ≡ false
       → ((code : ℕ) → code ≡ 1 → Leads c g F (suc (suc i))
-      (out t a (Payload k (record { buf = p .buf + 1; skip = 0 }) sector (got + left chain p .len)) (mems (suc i)) b chain (put stage got bs) code))
-      → Leads c g F (suc i) (out t a (Payload k p sector got) (mems i) b chain stage code)
-  unfolding again step stepWith want next chained staged effect memStores diskStores shifted apply counted codeOf codeAfter paid
-  payload-turn i k p sector got chain stage code q e bs h n f = turn (suc i) (out t a (Payload k p sector got) (mems i) b chain stage code) q (rw (e, h, n) (f 1 refl))
+      (out t a descs (Payload k (record { buf = p .buf + 1; skip = 0 }) sector (got + left chain p .len)) (mems (suc i)) b chain (put stage got bs) code))
+      → Leads c g F (suc i) (out t a descs (Payload k p sector got) (mems i) b chain stage code)
+  unfolding again step stepWith want next chained measured staged effect memStores diskStores shifted apply counted codeOf codeAfter paid
+  payload-turn i k p sector got chain stage code q e bs h n f = turn (suc i) (out t a descs (Payload k p sector got) (mems i) b chain stage code) q (rw (e, h, n) (f 1 refl))
 
   -- .. and the last
   pub payload-last : (i : ℕ) (k : Walk) (p : Place) (sector got : ℕ) (chain stage : List ℕ) (code : ℕ) → code ≡ 1 → g (suc i) (mems i) ≡ mems (suc i) → (bs : List ℕ)
       → part (left chain p .at) (left chain p .len) (mems (suc i)) ≡ bs → ends k got (left chain p .len) ≡ true
       → ((code : ℕ) → code ≡ 1 → Leads c g F (suc (suc i))
-      (out t a (Answer k Done (k .r)) (mems (suc i)) (put b (c .disk .start + 512 * sector) (part 0 got stage ++ bs)) chain stage code))
-      → Leads c g F (suc i) (out t a (Payload k p sector got) (mems i) b chain stage code)
-  unfolding again step stepWith want next chained staged effect memStores diskStores shifted apply counted codeOf codeAfter paid
-  payload-last i k p sector got chain stage code q e bs h n f = turn (suc i) (out t a (Payload k p sector got) (mems i) b chain stage code) q (rw (e, h, n) (f 1 refl))
+      (out t a descs (Answer k Done (k .r)) (mems (suc i)) (put b (c .disk .start + 512 * sector) (part 0 got stage ++ bs)) chain stage code))
+      → Leads c g F (suc i) (out t a descs (Payload k p sector got) (mems i) b chain stage code)
+  unfolding again step stepWith want next chained measured staged effect memStores diskStores shifted apply counted codeOf codeAfter paid
+  payload-last i k p sector got chain stage code q e bs h n f = turn (suc i) (out t a descs (Payload k p sector got) (mems i) b chain stage code) q (rw (e, h, n) (f 1 refl))
 
   -- S6 and S7
   pub answer-turns : (i : ℕ) (k : Walk) (job : Job) (got : ℕ) (chain stage : List ℕ) (code : ℕ) → code ≡ 1 → g (suc i) (mems i) ≡ mems (suc i)
       → F (suc (suc (suc i)))
-      (out (oneMore t) (oneMore a) Poll
+      (out (oneMore t) (oneMore a) descs Poll
       (apply (record { to = c .queue .used + 2; bytes = bytes 2 (oneMore a) } ∷ [])
       (g (suc (suc i)) (apply (answerStores (c .id) (c .queue) a chain (diskOf (c .disk) b) k job) (mems (suc i))))) b chain stage 2)
-      → Leads c g F (suc i) (out t a (Answer k job got) (mems i) b chain stage code)
-  unfolding again step stepWith want next chained staged effect memStores diskStores shifted counted codeOf codeAfter
+      → Leads c g F (suc i) (out t a descs (Answer k job got) (mems i) b chain stage code)
+  unfolding again step stepWith want next chained measured staged effect memStores diskStores shifted counted codeOf codeAfter
   answer-turns i k job got chain stage code q e f =
-      let o = out t a (Answer k job got) (mems i) b chain stage code in
+      let o = out t a descs (Answer k job got) (mems i) b chain stage code in
       turn (suc i) o q (turn (suc (suc i)) (again c g (suc i) o) refl (there (suc (suc (suc i))) (again c g (suc (suc i)) (again c g (suc i) o)) (rw e f)))

@@ -4,3 +4,4 @@ pub mod Follows
 pub mod Fetches
 pub mod Serves
 pub mod Table
+pub mod Where

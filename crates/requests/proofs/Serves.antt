@@ -11,7 +11,7 @@ use borrow.Author.Tests.{ltb-false, lt-leb, le-leb, le-ltb, lt-ltb, ne-eqb}
 use Rattle.model.specs.Pick.{pick, both}
 use Rattle.model.specs.Bytes.{put, word, bytes}
 use Rattle.model.specs.Memory.{sound}
-use Rattle.model.specs.Ring.{pending, polled, headed as enters, fresh}
+use Rattle.model.specs.Ring.{pending, polled, headed as enters, fresh, elsewhere}
 use Rattle.model.specs.Chain.{complete}
 use Rattle.model.specs.Request.{fits, inOk, outOk, exactly, verdict, status, reported, decided}
 use Rattle.model.specs.Step.{Cfg, Span, Out, spans, scatter, handed, usedAt, diskOf, answerStores, codeAfter}
@@ -90,34 +90,36 @@ stores-are id q a chain disk m size head rs s ws job hd =
     rw (z, y, hd .writes-are, last-is s ws (length rs) chain (hd .writes-are))
 
 -- after a whole chain with a writable buffer there is a step to come
-complete-quiet : (head : ℕ) (rs : List Span) (s : Span) (ws : List Span) → codeAfter (complete (walk head rs (s ∷ ws))) ≡ 1
+complete-quiet : (head : ℕ) (rs : List Span) (s : Span) (ws : List Span) (last : ℕ) → codeAfter (complete (walk head rs (s ∷ ws)) last) ≡ 1
 unfolding complete walk codeAfter
-complete-quiet head rs s ws =
+complete-quiet head rs s ws last =
     rw (lt-leb (length rs + suc (length ws)) (length rs) (omega arith)) (on (λ (x : Phase). codeAfter x ≡ 1) (ltb (total rs) 16) (λ e. refl) (λ e. refl))
 
-module _ (c : Cfg) (g : ℕ → List ℕ → List ℕ) (mems : ℕ → List ℕ) (m : ℕ) (t a : ℕ) (b : List ℕ) where
+module _ (c : Cfg) (g : ℕ → List ℕ → List ℕ) (mems : ℕ → List ℕ) (m : ℕ) (t a descs : ℕ) (b : List ℕ) where
   -- after n steps this outcome, n being the number that was stated
   unfoldable pub Result : ℕ → Outcome → ℕ → Out → Type 0
-  Result calls w n o = (n ≡ calls) × (o .state ≡ stateAfter w t a) × (o .mem ≡ memoryBeside g mems n w) × (o .backing ≡ backingAfter w b) × (o .code ≡ codeFor w)
+  Result calls w n o = (n ≡ calls) × (o .state ≡ stateAfter w t a descs) × (o .mem ≡ memoryBeside g mems n w) × (o .backing ≡ backingAfter w b) × (o .code ≡ codeFor w)
 
-  breaks-here : (i reason head n : ℕ) (chain stage : List ℕ) (calls : ℕ) → suc i ≡ calls
-      → Leads c g (Result calls (breaks reason head n)) (suc i) (out t a (Broken reason head n) (mems i) b chain stage 3)
+  -- broken, x being the descriptors of the last complete chain: with reason 8 it is this one
+  breaks-here : (i reason head n at x : ℕ) (chain stage : List ℕ) (calls : ℕ) → suc i ≡ calls → pick (eqb reason 8) n descs ≡ x
+      → Leads c g (Result calls (breaks reason head n at)) (suc i) (out t a x (Broken reason head n at) (mems i) b chain stage 3)
   unfolding Result stateAfter memoryBeside backingAfter codeFor
-  breaks-here i reason head n chain stage calls h =
+  breaks-here i reason head n at x chain stage calls h y =
       let z : suc i - 1 ≡ i = omega arith in
-      there (suc i) (out t a (Broken reason head n) (mems i) b chain stage 3) (h, refl, rw z refl, refl, refl)
+      there (suc i) (out t a x (Broken reason head n at) (mems i) b chain stage 3)
+      (h, ap (λ (d : ℕ). record { taken = t; answered = a; descs = d; phase = Broken reason head n at }) (sym y), rw z refl, refl, refl)
 
   -- S6 and S7 of a job that hands out the same bytes and has the same status as the verdict
   finish : Beside c g mems m → (i head : ℕ) (rs : List Span) (s : Span) (ws : List Span) (string : List ℕ) (job does : Job) (got : ℕ) (b₂ chain stage : List ℕ) (code calls : ℕ)
       → code ≡ 1 → Held m (c .queue .size) chain rs (s ∷ ws) → status does ≡ status job
       → handed (c .id) (diskOf (c .disk) b₂) (walk head rs (s ∷ ws)) does ≡ handed (c .id) (diskOf (c .disk) b) (walk head rs (s ∷ ws)) job
       → b₂ ≡ stored (c .disk) job (drop 16 string) b → suc (suc (suc i)) ≡ calls
-      → Leads c g (Result calls (answer c a b head rs (s ∷ ws) string job)) (suc i) (out t a (Answer (walk head rs (s ∷ ws)) does got) (mems i) b₂ chain stage code)
+      → Leads c g (Result calls (answer c a b head rs (s ∷ ws) string job)) (suc i) (out t a (length rs + length (s ∷ ws)) (Answer (walk head rs (s ∷ ws)) does got) (mems i) b₂ chain stage code)
   unfolding Result stateAfter memoryBeside backingAfter codeFor answer
   finish e i head rs s ws string job does got b₂ chain stage code calls q hd st ha ba h =
       let y : suc (suc (suc i)) - 1 ≡ suc (suc i) = omega arith in
       let z : suc (suc (suc i)) - 2 ≡ suc i = omega arith in
-      answer-turns c g mems (Result calls (answer c a b head rs (s ∷ ws) string job)) t a b₂ i (walk head rs (s ∷ ws)) does got chain stage code q (e .goes-on i)
+      answer-turns c g mems (Result calls (answer c a b head rs (s ∷ ws) string job)) t a (length rs + length (s ∷ ws)) b₂ i (walk head rs (s ∷ ws)) does got chain stage code q (e .goes-on i)
       (h, refl, rw (y, z, stores-are (c .id) (c .queue) a chain (diskOf (c .disk) b₂) m (c .queue .size) head rs s ws does hd, st, ha) refl, ba, refl)
 
   -- an accepted OUT: with no data it is done, with some it is fetched and stored first
@@ -125,7 +127,7 @@ module _ (c : Cfg) (g : ℕ → List ℕ → List ℕ) (mems : ℕ → List ℕ)
       → code ≡ 1 → Held m (c .queue .size) chain rs (s ∷ ws) → Ahead chain p ps → Inside m ps → total ps + 16 ≡ total rs → length hs ≡ 16 → total rs - 16 ≤ length stage
       → suc i + length ps + 2 ≡ calls
       → Leads c g (Result calls (answer c a b head rs (s ∷ ws) (hs ++ gatherFrom mems (suc i) ps) (Write z))) (suc i)
-      (out t a (decided (walk head rs (s ∷ ws)) p (Write z)) (mems i) b chain stage code)
+      (out t a (length rs + length (s ∷ ws)) (decided (walk head rs (s ∷ ws)) p (Write z)) (mems i) b chain stage code)
   unfolding decided walk total Inside status handed stored gatherFrom
   carry-write e i head rs s ws hs z p chain stage code calls [] q hd w n u l r h =
       let d : drop 16 (hs ++ []) ≡ [] = drop-at hs [] 16 l in
@@ -136,7 +138,7 @@ module _ (c : Cfg) (g : ℕ → List ℕ → List ℕ) (mems : ℕ → List ℕ)
       let one = n .0 in
       rw (lt-ltb 16 (total rs) (omega arith))
       (rw (put-nil stage 0) at
-      (paid-out c g mems m (Result calls (answer c a b head rs (s ∷ ws) (hs ++ gatherFrom mems (suc i) (x ∷ xs)) (Write z))) t a b chain (walk head rs (s ∷ ws)) e x xs stage [] p z i code q
+      (paid-out c g mems m (Result calls (answer c a b head rs (s ∷ ws) (hs ++ gatherFrom mems (suc i) (x ∷ xs)) (Write z))) t a (length rs + length (s ∷ ws)) b chain (walk head rs (s ∷ ws)) e x xs stage [] p z i code q
       (omega arith) r n w
       (λ stage code q.
       finish e (i + suc (length xs)) head rs s ws (hs ++ gatherFrom mems (suc i) (x ∷ xs)) (Write z) Done (total rs)
@@ -147,7 +149,7 @@ module _ (c : Cfg) (g : ℕ → List ℕ → List ℕ) (mems : ℕ → List ℕ)
       → code ≡ 1 → Held m (c .queue .size) chain rs (s ∷ ws) → Ahead chain p (past 16 rs) → 16 ≤ total rs → length hs ≡ 16
       → ((z : ℕ) → job ≡ Write z → total rs - 16 ≤ length stage) → suc i + dataFetches rs job + 2 ≡ calls
       → Leads c g (Result calls (answer c a b head rs (s ∷ ws) (hs ++ gatherFrom mems (suc i) (past 16 rs)) job)) (suc i)
-      (out t a (decided (walk head rs (s ∷ ws)) p job) (mems i) b chain stage code)
+      (out t a (length rs + length (s ∷ ws)) (decided (walk head rs (s ∷ ws)) p job) (mems i) b chain stage code)
   unfolding decided dataFetches stored
   carry e i head rs s ws hs Failed p chain stage code calls q hd w u l r h =
       finish e i head rs s ws (hs ++ gatherFrom mems (suc i) (past 16 rs)) Failed Failed 16 b chain stage code calls q hd refl refl refl (omega arith)
@@ -169,7 +171,7 @@ module _ (c : Cfg) (g : ℕ → List ℕ → List ℕ) (mems : ℕ → List ℕ)
       (Result (suc i + fetches rs (jobOf (c .disk) (hs ++ ds) (total rs) (total (s ∷ ws))) + 2)
       (answer c a b head rs (s ∷ ws) (hs ++ ds) (jobOf (c .disk) (hs ++ ds) (total rs) (total (s ∷ ws)))))
       (suc i)
-      (out t a (pick (ltb (total rs) 16) (Answer (walk head rs (s ∷ ws)) Failed 0) (Header (walk head rs (s ∷ ws)) (record { buf = 0; skip = 0 }) 0)) (mems i) b chain stage code)
+      (out t a (length rs + length (s ∷ ws)) (pick (ltb (total rs) 16) (Answer (walk head rs (s ∷ ws)) Failed 0) (Header (walk head rs (s ∷ ws)) (record { buf = 0; skip = 0 }) 0)) (mems i) b chain stage code)
   unfolding jobOf Decides walk stored
   request e i head rs s ws chain stage code hs ds q l hd eh ed = go (ltb (total rs) 16) refl
     where
@@ -178,7 +180,7 @@ module _ (c : Cfg) (g : ℕ → List ℕ → List ℕ) (mems : ℕ → List ℕ)
 
       go : (v : Bool) → ltb (total rs) 16 ≡ v
           → Leads c g (Result (suc i + fetches rs job + 2) (answer c a b head rs (s ∷ ws) (hs ++ ds) job)) (suc i)
-          (out t a (pick v (Answer (walk head rs (s ∷ ws)) Failed 0) (Header (walk head rs (s ∷ ws)) (record { buf = 0; skip = 0 }) 0)) (mems i) b chain stage code)
+          (out t a (length rs + length (s ∷ ws)) (pick v (Answer (walk head rs (s ∷ ws)) Failed 0) (Header (walk head rs (s ∷ ws)) (record { buf = 0; skip = 0 }) 0)) (mems i) b chain stage code)
       go true v =
           rw (job-short (c .disk) (hs ++ ds) (total rs) (total (s ∷ ws)) v, fetch-short rs Failed v)
           (finish e i head rs s ws (hs ++ ds) Failed Failed 0 b chain stage code (suc i + 0 + 2) q hd refl refl refl (omega arith))
@@ -189,7 +191,7 @@ module _ (c : Cfg) (g : ℕ → List ℕ → List ℕ) (mems : ℕ → List ℕ)
           let y = header-word 8 8 stage hs ds lh (omega arith) (omega arith) in
           rw (fetch-long rs job v)
           (rw (put-nil stage 0) at
-          (headed c g mems m (Result (suc i + (length (upTo 16 rs) + dataFetches rs job) + 2) (answer c a b head rs (s ∷ ws) (hs ++ ds) job)) t a b chain (walk head rs (s ∷ ws)) e rs stage []
+          (headed c g mems m (Result (suc i + (length (upTo 16 rs) + dataFetches rs job) + 2) (answer c a b head rs (s ∷ ws) (hs ++ ds) job)) t a (length rs + length (s ∷ ws)) b chain (walk head rs (s ∷ ws)) e rs stage []
           (record { buf = 0; skip = 0 }) i code q (omega arith) long (hd .reads-in) (ahead-next chain 0 rs (hd .reads-are))
           (λ p code q w.
           rw (eh, x, y)
@@ -197,32 +199,33 @@ module _ (c : Cfg) (g : ℕ → List ℕ → List ℕ) (mems : ℕ → List ℕ)
           (carry e (i + length (upTo 16 rs)) head rs s ws hs job p chain (put stage 0 hs) code (suc i + (length (upTo 16 rs) + dataFetches rs job) + 2) q hd w long lh
           (λ z q. omega (arith, write-short (c .disk) (word 4 0 (hs ++ ds)) (word 8 8 (hs ++ ds)) (total rs) (total (s ∷ ws)) z q, length-put stage 0 hs)) (omega arith))))))
 
-  served : Beside c g mems m → (i head : ℕ) (rs : List Span) (s : Span) (ws : List Span) (chain stage : List ℕ) (code : ℕ) → code ≡ 1 → 1048576 ≤ length stage
+  served : Beside c g mems m → (i head : ℕ) (rs : List Span) (s : Span) (ws : List Span) (last : ℕ) (chain stage : List ℕ) (code : ℕ) → code ≡ 1 → 1048576 ≤ length stage
       → suc i ≡ 2 + (length rs + suc (length ws)) → Held m (c .queue .size) chain rs (s ∷ ws)
-      → Leads c g (Result (chainCalls c (changing (c .queue) t mems) (whole rs (s ∷ ws))) (carried c (changing (c .queue) t mems) a b head (whole rs (s ∷ ws)))) (suc i)
-      (out t a (complete (walk head rs (s ∷ ws))) (mems i) b chain stage code)
+      → Leads c g (Result (chainCalls c (changing (c .queue) t mems) (whole rs (s ∷ ws) last)) (carried c (changing (c .queue) t mems) a b head (whole rs (s ∷ ws) last))) (suc i)
+      (out t a (length rs + length (s ∷ ws)) (complete (walk head rs (s ∷ ws)) last) (mems i) b chain stage code)
   unfolding chainCalls carried complete walk changing
-  served e i head rs s ws chain stage code q l h hd =
+  served e i head rs s ws last chain stage code q l h hd =
       let u : leb (length rs + suc (length ws)) (length rs) ≡ false = lt-leb (length rs + suc (length ws)) (length rs) (omega arith) in
       let z : eqb (suc (length ws)) 0 ≡ false = ne-eqb (suc (length ws)) 0 (λ x. omega arith) in
       rw (u, z, ← h, suc-add i (length (upTo 16 rs))) (request e i head rs s ws chain stage code _ _ q l hd refl refl)
 
   goes : Beside c g mems m → (head : ℕ) (stage : List ℕ) → 1048576 ≤ length stage → (x : Followed)
-      → Goes c g mems m (Result (chainCalls c (changing (c .queue) t mems) x) (carried c (changing (c .queue) t mems) a b head x)) t a b stage head x
+      → Goes c g mems m (Result (chainCalls c (changing (c .queue) t mems) x) (carried c (changing (c .queue) t mems) a b head x)) t a descs b stage head x
   unfolding Goes chainCalls carried complete walk codeAfter
-  goes e head stage l (broke reason n) = λ i chain h. breaks-here i reason head n chain stage (2 + n) h
-  goes e head stage l (whole rs []) =
+  goes e head stage l (broke reason n at) =
+      λ i chain h r. breaks-here i reason head n at descs chain stage (2 + n) h (rw (ne-eqb reason 8 (λ x. omega arith)))
+  goes e head stage l (whole rs [] last) =
       λ i chain h hd.
       let u : leb (length rs + 0) (length rs) ≡ true = le-leb (length rs + 0) (length rs) (omega arith) in
-      rw (u, add-zero) (breaks-here i 8 head (length rs) chain stage (2 + length rs) (omega arith))
-  goes e head stage l (whole rs (s ∷ ws)) = λ i chain h hd. served e i head rs s ws chain stage _ (complete-quiet head rs s ws) l h hd
+      rw (u, add-zero) (breaks-here i 8 head (length rs) last (length rs) chain stage (2 + length rs) (omega arith) refl)
+  goes e head stage l (whole rs (s ∷ ws) last) = λ i chain h hd. served e i head rs s ws last chain stage _ (complete-quiet head rs s ws last) l h hd
 
   -- every guest: from S1 on, whatever is in private memory
   leads : Beside c g mems m → (mem chain stage : List ℕ) (code : ℕ) → g 0 mem ≡ mems 0 → 2 * c .queue .size ≤ length chain → 1048576 ≤ length stage
-      → Leads c g (Result (calls c (changing (c .queue) t mems) t) (serve c (changing (c .queue) t mems) t a b)) 1 (again c g 0 (out t a Poll mem b chain stage code))
+      → Leads c g (Result (calls c (changing (c .queue) t mems) t) (serve c (changing (c .queue) t mems) t a b)) 1 (again c g 0 (out t a descs Poll mem b chain stage code))
   unfolding calls serve changing polled enters walk total Takes spans Inside Result stateAfter memoryBeside backingAfter codeFor codeAfter
   leads e mem chain stage code h r l =
-      poll-turn c g mems (Result (calls c v t) (serve c v t a b)) t a b mem chain stage code h
+      poll-turn c g mems (Result (calls c v t) (serve c v t a b)) t a descs b mem chain stage code h
       (first (eqb (pending (v .idx) t) 0) (ltb (c .queue .size) (pending (v .idx) t)))
     where
       v : Seen
@@ -232,37 +235,37 @@ module _ (c : Cfg) (g : ℕ → List ℕ → List ℕ) (mems : ℕ → List ℕ)
       x = follow c v (v .entry) (c .queue .size + 1) (v .entry) [] []
 
       second : (q : Bool)
-          → Leads c g (Result (pick q 2 (chainCalls c v x)) (pick q (breaks 2 0 0) (carried c v a b (v .entry) x))) 2
-          (out t a (pick q (Broken 2 0 0) (Chain (fresh (v .entry)) (v .entry))) (mems 1) b chain stage (codeAfter (pick q (Broken 2 0 0) (Chain (fresh (v .entry)) (v .entry)))))
-      second true = breaks-here 1 2 0 0 chain stage 2 refl
+          → Leads c g (Result (pick q 2 (chainCalls c v x)) (pick q (breaks 2 0 0 elsewhere) (carried c v a b (v .entry) x))) 2
+          (out t a descs (pick q (Broken 2 0 0 elsewhere) (Chain (fresh (v .entry)) (v .entry))) (mems 1) b chain stage (codeAfter (pick q (Broken 2 0 0 elsewhere) (Chain (fresh (v .entry)) (v .entry)))))
+      second true = breaks-here 1 2 0 0 elsewhere descs chain stage 2 refl refl
       second false =
-          takes-chain c g mems m (Result (chainCalls c v x) (carried c v a b (v .entry) x)) t a b stage (v .entry) e (c .queue .size + 1) (v .entry) [] [] 1 chain 1 refl refl (omega arith) (omega arith)
+          takes-chain c g mems m (Result (chainCalls c v x) (carried c v a b (v .entry) x)) t a descs b stage (v .entry) e (c .queue .size + 1) (v .entry) [] [] 1 chain 1 refl refl (omega arith) (omega arith)
           (record { reads-are = refl; writes-are = refl; reads-in = tt; writes-in = tt; room = r }) (goes e (v .entry) stage l x)
 
       first : (p q : Bool)
           → Leads c g
           (Result (pick p 1 (pick q 1 (pick (leb (c .queue .size) (v .entry)) 2 (chainCalls c v x))))
-          (pick p idle (pick q (breaks 1 0 0) (pick (leb (c .queue .size) (v .entry)) (breaks 2 0 0) (carried c v a b (v .entry) x)))))
-          1 (out t a (pick p Poll (pick q (Broken 1 0 0) Entry)) (mems 0) b chain stage (codeAfter (pick p Poll (pick q (Broken 1 0 0) Entry))))
-      first true q = there 1 (out t a Poll (mems 0) b chain stage 0) (refl, refl, refl, refl, refl)
-      first false true = breaks-here 0 1 0 0 chain stage 1 refl
+          (pick p idle (pick q (breaks 1 0 0 elsewhere) (pick (leb (c .queue .size) (v .entry)) (breaks 2 0 0 elsewhere) (carried c v a b (v .entry) x)))))
+          1 (out t a descs (pick p Poll (pick q (Broken 1 0 0 elsewhere) Entry)) (mems 0) b chain stage (codeAfter (pick p Poll (pick q (Broken 1 0 0 elsewhere) Entry))))
+      first true q = there 1 (out t a descs Poll (mems 0) b chain stage 0) (refl, refl, refl, refl, refl)
+      first false true = breaks-here 0 1 0 0 elsewhere descs chain stage 1 refl refl
       first false false =
-          entry-turn c g mems (Result (pick (leb (c .queue .size) (v .entry)) 2 (chainCalls c v x)) (pick (leb (c .queue .size) (v .entry)) (breaks 2 0 0) (carried c v a b (v .entry) x))) t a b
+          entry-turn c g mems (Result (pick (leb (c .queue .size) (v .entry)) 2 (chainCalls c v x)) (pick (leb (c .queue .size) (v .entry)) (breaks 2 0 0 elsewhere) (carried c v a b (v .entry) x))) t a descs b
           chain stage 1 refl (e .goes-on 0) (second (leb (c .queue .size) (v .entry)))
 
 -- the number of steps is the stated one, and every one before the last answers 1
-result : (c : Cfg) (g : ℕ → List ℕ → List ℕ) (mems : ℕ → List ℕ) (m t a : ℕ) (b : List ℕ) (calls : ℕ) (w : Outcome) (o : Out) → Ended c g (Result c g mems m t a b calls w) 1 (again c g 0 o)
-    → Agrees w t a (memoryBeside g mems calls w) b (after c g 0 calls o)
+result : (c : Cfg) (g : ℕ → List ℕ → List ℕ) (mems : ℕ → List ℕ) (m t a descs : ℕ) (b : List ℕ) (calls : ℕ) (w : Outcome) (o : Out) → Ended c g (Result c g mems m t a descs b calls w) 1 (again c g 0 o)
+    → Agrees w t a descs (memoryBeside g mems calls w) b (after c g 0 calls o)
 unfolding Result after
-result c g mems m t a b calls w o r =
+result c g mems m t a descs b calls w o r =
     let k = rw (suc-add, zero-add) at (r .holds) in
     let n : suc (r .steps) ≡ calls = k .0 in
     rw (← n) (record { state-is = k .1; mem-is = k .2; backing-is = k .3; code-is = k .4 })
 
-quiet : (c : Cfg) (g : ℕ → List ℕ → List ℕ) (mems : ℕ → List ℕ) (m t a : ℕ) (b : List ℕ) (calls : ℕ) (w : Outcome) (o : Out) → Ended c g (Result c g mems m t a b calls w) 1 (again c g 0 o)
+quiet : (c : Cfg) (g : ℕ → List ℕ → List ℕ) (mems : ℕ → List ℕ) (m t a descs : ℕ) (b : List ℕ) (calls : ℕ) (w : Outcome) (o : Out) → Ended c g (Result c g mems m t a descs b calls w) 1 (again c g 0 o)
     → o .code ≡ 1 → (j : ℕ) → j < calls → after c g 0 j o .code ≡ 1
 unfolding Result
-quiet c g mems m t a b calls w o r q j h =
+quiet c g mems m t a descs b calls w o r q j h =
     let n = r .holds .0 in
     quiet-first c g 0 o (r .steps) q (r .quiet) j (omega arith)
 
@@ -273,19 +276,19 @@ length-memories g mem h (suc i) = h (suc i) (memories g mem i) ∙ length-memori
 
 -- 6. Whatever a guest makes of its memory before each step, if only the length stays: the steps come to `serve` of idx, entry, descriptors, header and
 -- payload as each was when it was fetched, after exactly `calls` steps. The bytes of S6 go over the memory of that step, idx over that of the next.
-pub serves-as-fetched : (c : Cfg) (g : ℕ → List ℕ → List ℕ) → ((i : ℕ) (x : List ℕ) → length (g i x) ≡ length x) → (t a : ℕ) (mem backing chain stage : List ℕ) (code : ℕ)
+pub serves-as-fetched : (c : Cfg) (g : ℕ → List ℕ → List ℕ) → ((i : ℕ) (x : List ℕ) → length (g i x) ≡ length x) → (t a descs : ℕ) (mem backing chain stage : List ℕ) (code : ℕ)
     → sound (length mem) (c .map) ≡ true → 2 * c .queue .size ≤ length chain → 1048576 ≤ length stage
     → let v = changing (c .queue) t (memories g mem) in
     let w = serve c v t a backing in
     let n = calls c v t in
-    Agrees w t a (memoryBeside g (memories g mem) n w) backing (after c g 0 n (out t a Poll mem backing chain stage code))
+    Agrees w t a descs (memoryBeside g (memories g mem) n w) backing (after c g 0 n (out t a descs Poll mem backing chain stage code))
 unfolding memories
-serves-as-fetched c g h t a mem backing chain stage code s r l =
+serves-as-fetched c g h t a descs mem backing chain stage code s r l =
     let mems = memories g mem in
     let e : Beside c g mems (length mem) = record { goes-on = λ j. refl; long = length-memories g mem h; map-sound = s } in
     let v = changing (c .queue) t mems in
-    result c g mems (length mem) t a backing (calls c v t) (serve c v t a backing) (out t a Poll mem backing chain stage code)
-    (ended (leads c g mems (length mem) t a backing e mem chain stage code refl r l))
+    result c g mems (length mem) t a descs backing (calls c v t) (serve c v t a backing) (out t a descs Poll mem backing chain stage code)
+    (ended (leads c g mems (length mem) t a descs backing e mem chain stage code refl r l))
 
 -- what is fetched of a memory that is held still
 still-seen : (q : Queue) (t : ℕ) (m : List ℕ) → changing q t (λ i. m) ≡ still q t m
@@ -299,35 +302,35 @@ still-seen q t m =
 still-memory : (m : List ℕ) (n : ℕ) (w : Outcome) → memoryBeside (λ i x. x) (λ i. m) n w ≡ memoryAfter w m
 unfolding memoryBeside memoryAfter
 still-memory m n idle = refl
-still-memory m n (breaks reason head fetched) = refl
-still-memory m n (serves writes idx after head len) = sym (apply-append writes (idx ∷ []) m)
+still-memory m n (breaks reason head fetched at) = refl
+still-memory m n (serves writes idx after head len descs) = sym (apply-append writes (idx ∷ []) m)
 
 -- the steps over a memory held still
-still-leads : (c : Cfg) (t a : ℕ) (mem backing chain stage : List ℕ) (code : ℕ) → sound (length mem) (c .map) ≡ true → 2 * c .queue .size ≤ length chain → 1048576 ≤ length stage
+still-leads : (c : Cfg) (t a descs : ℕ) (mem backing chain stage : List ℕ) (code : ℕ) → sound (length mem) (c .map) ≡ true → 2 * c .queue .size ≤ length chain → 1048576 ≤ length stage
     → Ended c (λ i x. x)
-    (Result c (λ i x. x) (λ i. mem) (length mem) t a backing (calls c (still (c .queue) t mem) t) (serve c (still (c .queue) t mem) t a backing))
-    1 (again c (λ i x. x) 0 (out t a Poll mem backing chain stage code))
-still-leads c t a mem backing chain stage code s r l =
+    (Result c (λ i x. x) (λ i. mem) (length mem) t a descs backing (calls c (still (c .queue) t mem) t) (serve c (still (c .queue) t mem) t a backing))
+    1 (again c (λ i x. x) 0 (out t a descs Poll mem backing chain stage code))
+still-leads c t a descs mem backing chain stage code s r l =
     let g : ℕ → List ℕ → List ℕ = λ i x. x in
     let mems : ℕ → List ℕ = λ i. mem in
     let e : Beside c g mems (length mem) = record { goes-on = λ j. refl; long = λ j. refl; map-sound = s } in
-    rw (still-seen (c .queue) t mem) at (ended (leads c g mems (length mem) t a backing e mem chain stage code refl r l))
+    rw (still-seen (c .queue) t mem) at (ended (leads c g mems (length mem) t a descs backing e mem chain stage code refl r l))
 
 -- 5. Memory held still, that is, what one step leaves is what the next one sees: the steps come to `serve` of that memory.
-pub serves-still : (c : Cfg) (t a : ℕ) (mem backing chain stage : List ℕ) (code : ℕ) → sound (length mem) (c .map) ≡ true → 2 * c .queue .size ≤ length chain → 1048576 ≤ length stage
+pub serves-still : (c : Cfg) (t a descs : ℕ) (mem backing chain stage : List ℕ) (code : ℕ) → sound (length mem) (c .map) ≡ true → 2 * c .queue .size ≤ length chain → 1048576 ≤ length stage
     → let v = still (c .queue) t mem in
     let w = serve c v t a backing in
-    Agrees w t a (memoryAfter w mem) backing (after c (λ i x. x) 0 (calls c v t) (out t a Poll mem backing chain stage code))
-serves-still c t a mem backing chain stage code s r l =
+    Agrees w t a descs (memoryAfter w mem) backing (after c (λ i x. x) 0 (calls c v t) (out t a descs Poll mem backing chain stage code))
+serves-still c t a descs mem backing chain stage code s r l =
     let v = still (c .queue) t mem in
     let w = serve c v t a backing in
     rw (still-memory mem (calls c v t) w) at
-    (result c (λ i x. x) (λ i. mem) (length mem) t a backing (calls c v t) w (out t a Poll mem backing chain stage code) (still-leads c t a mem backing chain stage code s r l))
+    (result c (λ i x. x) (λ i. mem) (length mem) t a descs backing (calls c v t) w (out t a descs Poll mem backing chain stage code) (still-leads c t a descs mem backing chain stage code s r l))
 
 -- .. and every one of them before the last answers 1
-pub quiet-still : (c : Cfg) (t a : ℕ) (mem backing chain stage : List ℕ) → sound (length mem) (c .map) ≡ true → 2 * c .queue .size ≤ length chain → 1048576 ≤ length stage
-    → (j : ℕ) → j < calls c (still (c .queue) t mem) t → after c (λ i x. x) 0 j (out t a Poll mem backing chain stage 1) .code ≡ 1
-quiet-still c t a mem backing chain stage s r l =
+pub quiet-still : (c : Cfg) (t a descs : ℕ) (mem backing chain stage : List ℕ) → sound (length mem) (c .map) ≡ true → 2 * c .queue .size ≤ length chain → 1048576 ≤ length stage
+    → (j : ℕ) → j < calls c (still (c .queue) t mem) t → after c (λ i x. x) 0 j (out t a descs Poll mem backing chain stage 1) .code ≡ 1
+quiet-still c t a descs mem backing chain stage s r l =
     let v = still (c .queue) t mem in
-    quiet c (λ i x. x) (λ i. mem) (length mem) t a backing (calls c v t) (serve c v t a backing) (out t a Poll mem backing chain stage 1)
-    (still-leads c t a mem backing chain stage 1 s r l) refl
+    quiet c (λ i x. x) (λ i. mem) (length mem) t a descs backing (calls c v t) (serve c v t a backing) (out t a descs Poll mem backing chain stage 1)
+    (still-leads c t a descs mem backing chain stage 1 s r l) refl

@@ -5,7 +5,7 @@ use lib.Dec.{leb, ltb, eqb}
 use lib.ListN.{length, drop}
 use Rattle.model.specs.Pick.{pick}
 use Rattle.model.specs.Bytes.{put, part, word, bytes}
-use Rattle.model.specs.Ring.{pending, oneMore}
+use Rattle.model.specs.Ring.{pending, oneMore, elsewhere}
 use Rattle.model.specs.Chain.{descAt, tested}
 use Rattle.model.specs.Request.{verdict, status, reported}
 use Rattle.model.specs.Step.{Cfg, Span, Store, apply, scatter, handed, usedAt, diskOf}
@@ -50,25 +50,26 @@ total (s ∷ ss) = s .len + total ss
 unfoldable pub walk : ℕ → List Span → List Span → Walk
 walk head rs ws = record { head = head; count = length rs + length ws; reads = length rs; r = total rs; w = total ws }
 
--- what following a chain comes to: the reason and the descriptors fetched, or the buffers, readable and writable
+-- What following a chain comes to. Refused: the reason, the descriptors fetched, and the number of the one at which it stopped (DEV-12).
+-- Complete: the buffers, readable and writable, as many as it has descriptors, and the number of the last one.
 pub data Followed : Type 0 where
-  broke : (reason fetched : ℕ) → Followed
-  whole : (reads writes : List Span) → Followed
+  broke : (reason fetched at : ℕ) → Followed
+  whole : (reads writes : List Span) (last : ℕ) → Followed
 
--- one descriptor, tested: flag 2 says which buffers its own joins; NEXT goes on with `more`
-unfoldable pub linked : (ℕ → List Span → List Span → Followed) → Desc → List Span → List Span → Tested → Followed
-linked more d rs ws (Bad reason) = broke reason (length rs + length ws + 1)
-linked more d rs ws (Next x) =
+-- descriptor n of the table, tested: flag 2 says which buffers its own joins; NEXT goes on with `more`
+unfoldable pub linked : (ℕ → List Span → List Span → Followed) → ℕ → Desc → List Span → List Span → Tested → Followed
+linked more n d rs ws (Bad reason) = broke reason (length rs + length ws + 1) n
+linked more n d rs ws (Next x) =
     pick (ltb (d .flags) 2) (more (d .next) (rs ++ (record { at = x; len = d .len } ∷ [])) ws) (more (d .next) rs (ws ++ (record { at = x; len = d .len } ∷ [])))
-linked more d rs ws (Last x) =
-    pick (ltb (d .flags) 2) (whole (rs ++ (record { at = x; len = d .len } ∷ [])) ws) (whole rs (ws ++ (record { at = x; len = d .len } ∷ [])))
+linked more n d rs ws (Last x) =
+    pick (ltb (d .flags) 2) (whole (rs ++ (record { at = x; len = d .len } ∷ [])) ws n) (whole rs (ws ++ (record { at = x; len = d .len } ∷ [])) n)
 
 -- "Follow the chain from the head. Each descriptor is fetched once, all 16 bytes of it, and tested": at most f more of them, the next being
 -- number n of the table. Number q + 1 of a chain fails its first test, so f = q + 1 is enough.
 unfoldable pub follow : Cfg → Seen → ℕ → ℕ → ℕ → List Span → List Span → Followed
-follow c v head zero n rs ws = broke 3 (length rs + length ws)
+follow c v head zero n rs ws = broke 3 (length rs + length ws) n
 follow c v head (suc f) n rs ws =
-    linked (λ i xs ys. follow c v head f i xs ys) (v .desc (length rs + length ws) n) rs ws
+    linked (λ i xs ys. follow c v head f i xs ys) n (v .desc (length rs + length ws) n) rs ws
     (tested (c .map) (c .queue .size) (walk head rs ws) (v .desc (length rs + length ws) n))
 
 -- "The status byte is always written, to the last writable byte."
@@ -90,12 +91,13 @@ stored d (Read s) sent backing = backing
 stored d (Write s) sent backing = put backing (d .start + 512 * s) sent
 stored d Identity sent backing = backing
 
--- What becomes of the next available entry. Broken: the reason, the head and the descriptors fetched. Served: the bytes written to guest memory,
--- in this order (01 §5), used idx last; the backing slice; head and length of the used entry.
+-- What becomes of the next available entry. Broken: the reason, the head, the descriptors fetched, and where the chain was refused. Served: the
+-- bytes written to guest memory, in this order (01 §5), used idx last; the backing slice; head and length of the used entry; and how many descriptors the
+-- chain has.
 pub data Outcome : Type 0 where
   idle : Outcome
-  breaks : (reason head fetched : ℕ) → Outcome
-  serves : (writes : List Store) (idx : Store) (backing : List ℕ) (head len : ℕ) → Outcome
+  breaks : (reason head fetched at : ℕ) → Outcome
+  serves : (writes : List Store) (idx : Store) (backing : List ℕ) (head len descs : ℕ) → Outcome
 
 -- "Bytes are written in a fixed order: payload in chain order, then status, then the used entry, then idx"; the used entry is "{id = head, len = L}"
 unfoldable pub answer : Cfg → ℕ → List ℕ → ℕ → List Span → List Span → List ℕ → Job → Outcome
@@ -105,30 +107,30 @@ answer c answered backing head rs ws string job =
     ++ (record { to = lastByte ws; bytes = status job ∷ [] }
     ∷ record { to = usedAt (c .queue) answered; bytes = bytes 4 head ++ bytes 4 (reported (status job) (total ws)) } ∷ []))
     (record { to = c .queue .used + 2; bytes = bytes 2 (oneMore answered) })
-    (stored (c .disk) job (drop 16 string) backing) head (reported (status job) (total ws))
+    (stored (c .disk) job (drop 16 string) backing) head (reported (status job) (total ws)) (length rs + length ws)
 
 -- "No writable buffer in the chain: reason 8 .. The request is carried out (document 03)."
 unfoldable pub carried : Cfg → Seen → ℕ → List ℕ → ℕ → Followed → Outcome
-carried c v answered backing head (broke reason fetched) = breaks reason head fetched
-carried c v answered backing head (whole rs ws) =
-    pick (eqb (length ws) 0) (breaks 8 head (length rs))
+carried c v answered backing head (broke reason fetched at) = breaks reason head fetched at
+carried c v answered backing head (whole rs ws last) =
+    pick (eqb (length ws) 0) (breaks 8 head (length rs) last)
     (answer c answered backing head rs ws (v .string rs ws) (jobOf (c .disk) (v .string rs ws) (total rs) (total ws)))
 
 -- "pending = (idx - taken) modulo 2^16. 0: nothing to do. Over q: broken, reason 1." The head: "q or more: reason 2."
 unfoldable pub serve : Cfg → Seen → ℕ → ℕ → List ℕ → Outcome
 serve c v taken answered backing =
     pick (eqb (pending (v .idx) taken) 0) idle
-    (pick (ltb (c .queue .size) (pending (v .idx) taken)) (breaks 1 0 0)
-    (pick (leb (c .queue .size) (v .entry)) (breaks 2 0 0)
+    (pick (ltb (c .queue .size) (pending (v .idx) taken)) (breaks 1 0 0 elsewhere)
+    (pick (leb (c .queue .size) (v .entry)) (breaks 2 0 0 elsewhere)
     (carried c v answered backing (v .entry) (follow c v (v .entry) (c .queue .size + 1) (v .entry) [] []))))
 
 -- the guest memory and the backing slice that it leaves, nobody else touching them
 unfoldable pub memoryAfter : Outcome → List ℕ → List ℕ
 memoryAfter idle m = m
-memoryAfter (breaks reason head fetched) m = m
-memoryAfter (serves writes idx after head len) m = apply (writes ++ (idx ∷ [])) m
+memoryAfter (breaks reason head fetched at) m = m
+memoryAfter (serves writes idx after head len descs) m = apply (writes ++ (idx ∷ [])) m
 
 unfoldable pub backingAfter : Outcome → List ℕ → List ℕ
 backingAfter idle b = b
-backingAfter (breaks reason head fetched) b = b
-backingAfter (serves writes idx after head len) b = after
+backingAfter (breaks reason head fetched at) b = b
+backingAfter (serves writes idx after head len descs) b = after

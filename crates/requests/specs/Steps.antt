@@ -33,8 +33,8 @@ fetches rs job = pick (ltb (total rs) 16) 0 (length (upTo 16 rs) + dataFetches r
 
 -- S1, S2, one S3 for each descriptor, the fetches of S4 and S5, S6 and S7
 unfoldable pub chainCalls : Cfg → Seen → Followed → ℕ
-chainCalls c v (broke reason fetched) = 2 + fetched
-chainCalls c v (whole rs ws) =
+chainCalls c v (broke reason fetched at) = 2 + fetched
+chainCalls c v (whole rs ws last) =
     pick (eqb (length ws) 0) (2 + length rs)
     (2 + (length rs + length ws) + fetches rs (jobOf (c .disk) (v .string rs ws) (total rs) (total ws)) + 2)
 

@@ -135,7 +135,7 @@ pub fn polled(q: usize, taken: usize, idx: usize) -> Phase
         return Phase::Poll;
     }
     if q < n {
-        return Phase::Broken(1, 0, 0);
+        return Phase::Broken(1, 0, 0, 65536);
     }
     Phase::Entry
 }
@@ -145,7 +145,7 @@ pub fn headed(q: usize, head: usize) -> Phase
     ensures { λ r. ⌜ r ≡ headed q head ⌝ }
 {
     if q <= head {
-        return Phase::Broken(2, 0, 0);
+        return Phase::Broken(2, 0, 0, 65536);
     }
     Phase::Chain(
         Walk {

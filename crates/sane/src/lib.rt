@@ -3,7 +3,7 @@ ghost use mathlib.Core.Path.{_≡_};
 ghost use mathlib.Core.Bool.{true};
 ghost use Prim.Native.Nat.{_+_, _-_, _*_, _≤_, _<_};
 ghost use lib.ListN.{length};
-ghost use Rattle.model.specs.Sane.{walkOk, fullOk, jobOk, sane, inside, allInside, placeOk, ready};
+ghost use Rattle.model.specs.Sane.{walkOk, fullOk, jobOk, refusedAt, sane, inside, allInside, placeOk, ready};
 ghost use Rattle.model.specs.Step.{spans};
 use model::Job;
 use model::Phase;
@@ -124,9 +124,19 @@ pub fn publish_sane(q: usize, k: Walk, got: usize) -> bool
     false
 }
 
-pub fn broken_sane(q: usize, reason: usize, head: usize, count: usize) -> bool
+// The descriptor at which a chain was refused (DEV-12): one of the table, if one was fetched.
+fn refused_at(q: usize, count: usize, at: usize) -> bool
+    ensures { λ z. ⌜ z ≡ refusedAt q count at ⌝ }
+{
+    if count == 0 {
+        return at == 65536;
+    }
+    at < q
+}
+
+pub fn broken_sane(q: usize, reason: usize, head: usize, count: usize, at: usize) -> bool
     requires { ⌜ q ≤ 256 ⌝ }
-    ensures { λ z. ⌜ z ≡ sane q 0 (Phase.Broken reason head count) ⌝ }
+    ensures { λ z. ⌜ z ≡ sane q 0 (Phase.Broken reason head count at) ⌝ }
 {
     if reason < 1 {
         return false;
@@ -137,7 +147,10 @@ pub fn broken_sane(q: usize, reason: usize, head: usize, count: usize) -> bool
     if q <= head {
         return false;
     }
-    count <= q + 1
+    if q + 1 < count {
+        return false;
+    }
+    refused_at(q, count, at)
 }
 
 // Is this a phase that steps make, on a queue of size q and a disk of so many sectors?
@@ -153,7 +166,7 @@ pub fn sane(q: usize, sectors: usize, p: Phase) -> bool
         Phase::Payload(k, at, s, got) => payload_sane(q, sectors, k, at, s, got),
         Phase::Answer(k, job, got) => answer_sane(q, sectors, k, job, got),
         Phase::Publish(k, got) => publish_sane(q, k, got),
-        Phase::Broken(reason, head, count) => broken_sane(q, reason, head, count),
+        Phase::Broken(reason, head, count, at) => broken_sane(q, reason, head, count, at),
     }
 }
 

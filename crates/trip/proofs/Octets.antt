@@ -133,7 +133,7 @@ written-disk chain stage (Payload k p sector got) f s h =
     on (λ (x : Effect). Written (diskStores x)) (ends k got (left chain p .len)) (λ e. (octets-append (part 0 got stage) f (octets-part 0 got stage s) h, tt)) (λ e. tt)
 written-disk chain stage (Answer k job got) f s h = tt
 written-disk chain stage (Publish k got) f s h = tt
-written-disk chain stage (Broken reason head count) f s h = tt
+written-disk chain stage (Broken reason head count at) f s h = tt
 
 octets-staged : (chain stage : List ℕ) (p : Phase) (f : List ℕ) → Octets stage → Octets f → Octets (staged chain stage p f)
 unfolding staged
@@ -144,7 +144,7 @@ octets-staged chain stage (Header k p got) f s h = octets-put stage got f s h
 octets-staged chain stage (Payload k p sector got) f s h = on Octets (ends k got (left chain p .len)) (λ e. s) (λ e. octets-put stage got f s h)
 octets-staged chain stage (Answer k job got) f s h = s
 octets-staged chain stage (Publish k got) f s h = s
-octets-staged chain stage (Broken reason head count) f s h = s
+octets-staged chain stage (Broken reason head count at) f s h = s
 
 -- one step
 pub octets-step : (c : Cfg) (s : State) (mem backing chain stage : List ℕ) → Octets (c .id) → Octets mem → Octets backing → Octets stage

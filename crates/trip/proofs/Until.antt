@@ -49,7 +49,7 @@ length-step c s mem backing chain stage =
 same-step : (c : Cfg) (n i : ℕ) (o : Called) (u : Out) → Octets (c .id) → Same c n o u → Same c n (called o) (again c (λ i x. x) i u)
 unfolding ran again
 same-step c n i o u d h =
-    let b = beside c n (left o) (u .state .taken) (u .state .answered) (u .mem) (u .backing) (u .chain) (u .stage) (octets-at (u .mem) (h .mem-bytes)) (h .long) (u .state .phase) (h .matches) in
+    let b = beside c n (left o) (u .state .taken) (u .state .answered) (u .state .descs) (u .mem) (u .backing) (u .chain) (u .stage) (octets-at (u .mem) (h .mem-bytes)) (h .long) (u .state .phase) (h .matches) in
     let z = octets-step c (u .state) (u .mem) (u .backing) (u .chain) (u .stage) d (h .mem-bytes) (h .backing-bytes) (h .stage-bytes) in
     rw (h .mem-is)
     (record {
@@ -80,13 +80,13 @@ same-until c n (suc k) (suc f) i o u d h s q e =
 code-last : (x : Outcome) → codeFor x ≡ 1 → ⊥
 unfolding codeFor
 code-last idle h = omega arith
-code-last (breaks reason head fetched) h = omega arith
-code-last (serves writes idx after head len) h = omega arith
+code-last (breaks reason head fetched at) h = omega arith
+code-last (serves writes idx after head len descs) h = omega arith
 
 chain-some : (c : Cfg) (v : Seen) (x : Followed) → 1 ≤ chainCalls c v x
 unfolding chainCalls
-chain-some c v (broke reason fetched) = omega arith
-chain-some c v (whole rs ws) = on (λ (x : ℕ). 1 ≤ x) (eqb (length ws) 0) (λ e. omega arith) (λ e. omega arith)
+chain-some c v (broke reason fetched at) = omega arith
+chain-some c v (whole rs ws last) = on (λ (x : ℕ). 1 ≤ x) (eqb (length ws) 0) (λ e. omega arith) (λ e. omega arith)
 
 calls-some : (c : Cfg) (v : Seen) (t : ℕ) → 1 ≤ calls c v t
 unfolding calls
@@ -145,22 +145,22 @@ stands c n w s backing chain stage m =
     })
 
 -- A request of which guest memory is held still: with enough calls, what `serve` says of that memory.
-pub until-serves : (c : Cfg) (n : ℕ) (w : World) (t a fuel : ℕ) (mem : List ℕ)
-    → Matches c n w (record { taken = t; answered = a; phase = Poll }) (w .backing) (w .chain) (w .stage) → length mem ≡ n
+pub until-serves : (c : Cfg) (n : ℕ) (w : World) (t a descs fuel : ℕ) (mem : List ℕ)
+    → Matches c n w (record { taken = t; answered = a; descs = descs; phase = Poll }) (w .backing) (w .chain) (w .stage) → length mem ≡ n
     → ((i : ℕ) → getD mem i 0 < 256) → ((i : ℕ) → getD (w .backing) i 0 < 256) → ((i : ℕ) → getD (w .stage) i 0 < 256)
     → calls c (still (c .queue) t mem) t ≤ fuel
-    → Served c n t a mem (w .backing) (serve c (still (c .queue) t mem) t a (w .backing)) (until fuel (untouched 1 (w .state) mem (w .backing) (w .chain) (w .stage)))
-until-serves c n w t a fuel mem m l bm bb bs h =
+    → Served c n t a descs mem (w .backing) (serve c (still (c .queue) t mem) t a (w .backing)) (until fuel (untouched 1 (w .state) mem (w .backing) (w .chain) (w .stage)))
+until-serves c n w t a descs fuel mem m l bm bb bs h =
     let v = still (c .queue) t mem in
     let x = serve c v t a (w .backing) in
     let k = calls c v t - 1 in
     let some = calls-some c v t in
     let e : suc k ≡ calls c v t = omega arith in
-    let d = stands c n w (record { taken = t; answered = a; phase = Poll }) (w .backing) (w .chain) (w .stage) m in
+    let d = stands c n w (record { taken = t; answered = a; descs = descs; phase = Poll }) (w .backing) (w .chain) (w .stage) m in
     let s : sound (length mem) (c .map) ≡ true = rw l (d .map-sound) in
-    let u : Out = out t a Poll mem (w .backing) (w .chain) (w .stage) 1 in
-    let g = serves-still c t a mem (w .backing) (w .chain) (w .stage) 1 s (d .chain-long) (d .stage-long) in
-    let q = quiet-still c t a mem (w .backing) (w .chain) (w .stage) s (d .chain-long) (d .stage-long) in
+    let u : Out = out t a descs Poll mem (w .backing) (w .chain) (w .stage) 1 in
+    let g = serves-still c t a descs mem (w .backing) (w .chain) (w .stage) 1 s (d .chain-long) (d .stage-long) in
+    let q = quiet-still c t a descs mem (w .backing) (w .chain) (w .stage) s (d .chain-long) (d .stage-long) in
     let last : Out = after c (λ i x. x) 0 (calls c v t) u in
     let r : Same c n (until fuel (untouched 1 (w .state) mem (w .backing) (w .chain) (w .stage))) last =
     rw e at

@@ -59,7 +59,8 @@ use Rattle.trip.specs.Exchange.{sent, shownIn, received, withStatus, Exc
 
 -- what one exchange stands on
 pub record Ready (c : Cfg) (fuel : ℕ) (d : Driver) (own : List ℕ) (rs : List Region) (ask : Ask) (message bufs spots nums : List ℕ) (o : Called) : Type 0 where
-  pub at-rest : Matches c (length (o .mem)) (left o) (record { taken = d .next; answered = d .seen; phase = Poll }) (o .backing) (o .chain) (o .stage)
+  pub descs : ℕ
+  pub at-rest : Matches c (length (o .mem)) (left o) (record { taken = d .next; answered = d .seen; descs = descs; phase = Poll }) (o .backing) (o .chain) (o .stage)
   pub same-queue : c .queue ≡ d .queue
   pub same-map : c .map ≡ rs
   pub next-in : d .next < 65536
@@ -82,10 +83,10 @@ freed-own : (q : ℕ) (own : List ℕ) (d : Driver) (head len : ℕ) (x : Taken)
 unfolding ownAfter
 freed-own q own d head len x own₂ e f = rw e f
 
-state-answered : (c : Cfg) (a : ℕ) (backing : List ℕ) (head : ℕ) (rs ws : List Span) (string : List ℕ) (job : Job) (t : ℕ)
-    → stateAfter (answer c a backing head rs ws string job) t a ≡ record { taken = oneMore t; answered = oneMore a; phase = Poll }
+state-answered : (c : Cfg) (a : ℕ) (backing : List ℕ) (head : ℕ) (rs ws : List Span) (string : List ℕ) (job : Job) (t descs : ℕ)
+    → stateAfter (answer c a backing head rs ws string job) t a descs ≡ record { taken = oneMore t; answered = oneMore a; descs = length rs + length ws; phase = Poll }
 unfolding stateAfter answer
-state-answered c a backing head rs ws string job t = refl
+state-answered c a backing head rs ws string job t descs = refl
 
 module _ (c : Cfg) (fuel : ℕ) (d : Driver) (own : List ℕ) (rs : List Region) (ask : Ask) (message bufs spots nums : List ℕ) (o : Called) (k : Ready c fuel d own rs ask message bufs spots nums o) where
   abbrev planHere : Plan
@@ -167,10 +168,10 @@ module _ (c : Cfg) (fuel : ℕ) (d : Driver) (own : List ℕ) (rs : List Region)
   same-view : still (c .queue) (d .next) laidMem ≡ still (d .queue) (d .next) laidMem
   same-view = ap (λ (q : Queue). still q (d .next) laidMem) (k .same-queue)
 
-  served : Served c (length (o .mem)) (d .next) (d .seen) laidMem (o .backing) outcome left-over
+  served : Served c (length (o .mem)) (d .next) (d .seen) (k .descs) laidMem (o .backing) outcome left-over
   served =
       rw same-view at
-      (until-serves c (length (o .mem)) (left o) (d .next) (d .seen) fuel laidMem (k .at-rest) long
+      (until-serves c (length (o .mem)) (left o) (d .next) (d .seen) (k .descs) fuel laidMem (k .at-rest) long
       (laid-bytes (d .queue) (d .next) (ask .kind) (ask .sector) message (ask .reads) e bufs (planHere .spots) (planHere .nums) (o .mem) (k .message-bytes) (k .mem-bytes))
       (k .backing-bytes) (k .stage-bytes)
       (rw same-view (omega (arith, stands-few c fit (k .same-map) (k .same-queue) string laidMem stands (d .next) waits, k .enough, fit .reads-in))))
@@ -189,7 +190,7 @@ module _ (c : Cfg) (fuel : ℕ) (d : Driver) (own : List ℕ) (rs : List Region)
     pub nums-are : x .nums ≡ planHere .nums
     pub reads-are : Reads laidDriver laidOwn head (planHere .spots) (ask .reads) e job given (x .device .mem)
     pub backing-is : x .device .backing ≡ stored (c .disk) job (drop 16 message) (o .backing)
-    pub goes-on : Matches c (length (o .mem)) (left (x .device)) (record { taken = oneMore (d .next); answered = oneMore (d .seen); phase = Poll }) (x .device .backing) (x .device .chain) (x .device .stage)
+    pub goes-on : Matches c (length (o .mem)) (left (x .device)) (record { taken = oneMore (d .next); answered = oneMore (d .seen); descs = length reads + length writes; phase = Poll }) (x .device .backing) (x .device .chain) (x .device .stage)
     pub mem-long : length (x .device .mem) ≡ length (o .mem)
     pub mem-bytes : AllBytes (x .device .mem)
     pub backing-bytes : AllBytes (x .device .backing)
@@ -211,7 +212,7 @@ module _ (c : Cfg) (fuel : ℕ) (d : Driver) (own : List ℕ) (rs : List Region)
         nums-are = refl;
         reads-are = r;
         backing-is = v .backing-is ∙ b .1;
-        goes-on = rw (← (state-answered c (d .seen) (o .backing) head reads writes string job (d .next)), ← outcome-is) (v .goes-on);
+        goes-on = rw (← (state-answered c (d .seen) (o .backing) head reads writes string job (d .next) (k .descs)), ← outcome-is) (v .goes-on);
         mem-long = v .mem-long;
         mem-bytes = v .mem-bytes;
         backing-bytes = v .backing-bytes;
@@ -258,11 +259,12 @@ module _ (n : ℕ) (d : Driver) (own map : List ℕ) (sector : ℕ) (message buf
   dev = deviceOf (o .state)
 
   dev-stands : DeviceStands dev (length (o .mem)) (left o)
-  dev-stands = stands-of dev (length (o .mem)) (left o) (record { taken = d .next; answered = d .seen; phase = Poll }) (o .backing) (o .chain) (o .stage) (h .at-rest)
+  dev-stands = stands-of dev (length (o .mem)) (left o) (record { taken = d .next; answered = d .seen; descs = getD (o .state) 52 0; phase = Poll }) (o .backing) (o .chain) (o .stage) (h .at-rest)
 
   ready₁ : Ready dev n d own (regions map) (asked 1 sector reads₁) message bufs spots nums o
   ready₁ =
       record {
+        descs = getD (o .state) 52 0;
         at-rest = h .at-rest;
         same-queue = h .same-queue;
         same-map = h .same-map;
@@ -313,6 +315,7 @@ module _ (n : ℕ) (d : Driver) (own map : List ℕ) (sector : ℕ) (message buf
       let w = went₁ in
       let l = plan-long (d .queue) (regions map) (length (o .mem)) own 1 (length message) bufs reads₁ spots nums in
       record {
+        descs = length (spans reads₁ 0 (plan₁ .spots)) + length (spans (length bufs / 2 - reads₁) reads₁ (plan₁ .spots));
         at-rest = rw (w .mem-long) (w .goes-on);
         same-queue = h .same-queue;
         same-map = h .same-map;

@@ -2,7 +2,7 @@
 use Prim.Native.Nat.{ℕ, _+_, _-_, _/_, _≤_}
 use mathlib.Core.List.{List}
 use mathlib.Core.Path.{_≡_}
-use lib.ListN.{length}
+use lib.ListN.{length, getD}
 use Rattle.model.specs.Memory.{regions}
 use Rattle.model.specs.Step.{Cfg, spans}
 use Rattle.model.specs.declared.Phase.the-variants.{Poll}
@@ -24,7 +24,7 @@ deviceOf state = cfgOf (configAt state) (mapWords state)
 pub record Honest (state mem backing chain stage : List ℕ) (n : ℕ) (d : Driver) (own map : List ℕ) (sector : ℕ) (message bufs : List ℕ) (reads : ℕ) (header bufs₂ : List ℕ) (reads₂ : ℕ) (out spots nums : List ℕ) : Type 0 where
   -- the words are those of an enabled queue at rest, which has taken and answered as many requests as the driver has laid and read
   pub at-rest : Matches (deviceOf state) (length mem) (record { state = state; backing = backing; chain = chain; stage = stage })
-      (record { taken = d .next; answered = d .seen; phase = Poll }) backing chain stage
+      (record { taken = d .next; answered = d .seen; descs = getD state 52 0; phase = Poll }) backing chain stage
   -- driver and device mean the same queue and the same memory
   pub same-queue : deviceOf state .queue ≡ d .queue
   pub same-map : deviceOf state .map ≡ regions map

@@ -22,11 +22,11 @@ until zero o = o
 until (suc n) o = pick (eqb (called o .code) 1) (until n (called o)) (called o)
 
 -- a request's calls of hd_step have come to an outcome: the answer, guest memory, the backing slice, and a device that can go on
-pub record Served (c : Cfg) (n t a : ℕ) (mem backing : List ℕ) (x : Outcome) (o : Called) : Type 0 where
+pub record Served (c : Cfg) (n t a descs : ℕ) (mem backing : List ℕ) (x : Outcome) (o : Called) : Type 0 where
   pub code-is : o .code ≡ codeFor x
   pub mem-is : o .mem ≡ memoryAfter x mem
   pub backing-is : o .backing ≡ backingAfter x backing
-  pub goes-on : Matches c n (left o) (stateAfter x t a) (o .backing) (o .chain) (o .stage)
+  pub goes-on : Matches c n (left o) (stateAfter x t a descs) (o .backing) (o .chain) (o .stage)
   pub mem-long : length (o .mem) ≡ n
   pub mem-bytes : (i : ℕ) → getD (o .mem) i 0 < 256
   pub backing-bytes : (i : ℕ) → getD (o .backing) i 0 < 256

@@ -5,7 +5,7 @@ use mathlib.Core.Bool.{Bool, true, false}
 use mathlib.Core.Path.{_≡_}
 use mathlib.Core.List.{List, [], _∷_}
 use lib.Dec.{leb, ltb, eqb}
-use lib.ListN.{length}
+use lib.ListN.{length, getD}
 use borrow.Author.Tests.{lt-leb, le-ltb, ne-eqb}
 use Rattle.model.specs.Pick.{pick}
 use Rattle.model.specs.Bytes.{word}
@@ -52,10 +52,10 @@ fetches-few rs job =
     on (λ (n : ℕ). n ≤ length rs + 1) (ltb (total rs) 16) (λ t. omega arith) (λ t. omega (arith, cut-few 16 rs, data-few rs job))
 
 -- what the steps come to once a chain with a writable buffer was followed to its end
-calls-few : (c : Cfg) (v : Seen) (t : ℕ) (rs ws : List Span) → 1 ≤ pending (v .idx) t → pending (v .idx) t ≤ c .queue .size → v .entry < c .queue .size → 1 ≤ length ws
-    → follow c v (v .entry) (c .queue .size + 1) (v .entry) [] [] ≡ whole rs ws → calls c v t ≤ 5 + (length rs + length ws) + length rs
+calls-few : (c : Cfg) (v : Seen) (t : ℕ) (rs ws : List Span) (last : ℕ) → 1 ≤ pending (v .idx) t → pending (v .idx) t ≤ c .queue .size → v .entry < c .queue .size → 1 ≤ length ws
+    → follow c v (v .entry) (c .queue .size + 1) (v .entry) [] [] ≡ whole rs ws last → calls c v t ≤ 5 + (length rs + length ws) + length rs
 unfolding calls chainCalls
-calls-few c v t rs ws hp hq n l f =
+calls-few c v t rs ws last hp hq n l f =
     rw (
       ne-eqb (pending (v .idx) t) 0 (λ x. omega arith),
       le-ltb (c .queue .size) (pending (v .idx) t) hq,
@@ -74,7 +74,7 @@ few-here c {reads = reads} {e = e} {spots = spots} {nums = nums} fit message m�
     let lr = length-spans reads 0 spots in
     let lw = length-spans (e - reads) reads spots in
     let h = word 2 (availAt (c .queue) t) m₂ in
-    let k = calls-few c (still (c .queue) t m₂) t (spans reads 0 spots) (spans (e - reads) reads spots) (w .waits) (w .few) (rw (w .entry-is) n)
+    let k = calls-few c (still (c .queue) t m₂) t (spans reads 0 spots) (spans (e - reads) reads spots) (getD nums (e - 1) 0) (w .waits) (w .few) (rw (w .entry-is) n)
     (omega (arith, writes-some fit)) (follow-whole c fit message m₂ st t h h (c .queue .size) (w .entry-is) (omega (arith, fit .few))) in
     omega (arith, fit .reads-in)
 

@@ -54,15 +54,15 @@ tested-as rs q k addr len nx x false true h l p s n = rw (lt-leb q (k .count) h,
 tested-as rs q k addr len nx x false false h l p s n = rw (lt-leb q (k .count) h, ne-eqb len 0 (λ z. omega arith), p, lt-leb q nx (n refl))
 
 -- .. and its buffer joins the readable or the writable ones
-linked-as : (more : ℕ → List Span → List Span → Followed) (addr len nx x : ℕ) (rs ws : List Span) (rd last : Bool)
-    → linked more (record { addr = addr; len = len; flags = flagsOf rd last; next = nextOf last nx }) rs ws (pick last (Last x) (Next x))
-    ≡ pick last (whole (pick rd (rs ++ (record { at = x; len = len } ∷ [])) rs) (pick rd ws (ws ++ (record { at = x; len = len } ∷ []))))
+linked-as : (more : ℕ → List Span → List Span → Followed) (n addr len nx x : ℕ) (rs ws : List Span) (rd last : Bool)
+    → linked more n (record { addr = addr; len = len; flags = flagsOf rd last; next = nextOf last nx }) rs ws (pick last (Last x) (Next x))
+    ≡ pick last (whole (pick rd (rs ++ (record { at = x; len = len } ∷ [])) rs) (pick rd ws (ws ++ (record { at = x; len = len } ∷ []))) n)
     (more nx (pick rd (rs ++ (record { at = x; len = len } ∷ [])) rs) (pick rd ws (ws ++ (record { at = x; len = len } ∷ []))))
 unfolding linked flagsOf nextOf
-linked-as more addr len nx x rs ws true true = refl
-linked-as more addr len nx x rs ws true false = refl
-linked-as more addr len nx x rs ws false true = refl
-linked-as more addr len nx x rs ws false false = refl
+linked-as more n addr len nx x rs ws true true = refl
+linked-as more n addr len nx x rs ws true false = refl
+linked-as more n addr len nx x rs ws false true = refl
+linked-as more n addr len nx x rs ws false false = refl
 
 -- the readable and the writable ones among the first i buffers
 abbrev readsTo : ℕ → ℕ → List ℕ → List Span
@@ -90,11 +90,11 @@ writes-more reads i spots false t =
     rw a (rw b at (sym (spans-more (i - reads) reads spots)))
 
 -- what serving comes to once a chain with a writable buffer was followed to its end
-serve-as : (c : Cfg) (v : Seen) (t a : ℕ) (backing : List ℕ) (rs ws : List Span) → 1 ≤ pending (v .idx) t → pending (v .idx) t ≤ c .queue .size
-    → v .entry < c .queue .size → 1 ≤ length ws → follow c v (v .entry) (c .queue .size + 1) (v .entry) [] [] ≡ whole rs ws
+serve-as : (c : Cfg) (v : Seen) (t a : ℕ) (backing : List ℕ) (rs ws : List Span) (last : ℕ) → 1 ≤ pending (v .idx) t → pending (v .idx) t ≤ c .queue .size
+    → v .entry < c .queue .size → 1 ≤ length ws → follow c v (v .entry) (c .queue .size + 1) (v .entry) [] [] ≡ whole rs ws last
     → serve c v t a backing ≡ answer c a backing (v .entry) rs ws (v .string rs ws) (jobOf (c .disk) (v .string rs ws) (total rs) (total ws))
 unfolding serve carried
-serve-as c v t a backing rs ws hp hq n l f =
+serve-as c v t a backing rs ws last hp hq n l f =
     rw (
       ne-eqb (pending (v .idx) t) 0 (λ x. omega arith),
       le-ltb (c .queue .size) (pending (v .idx) t) hq,
@@ -108,7 +108,7 @@ module _ (c : Cfg) {m : ℕ} {own : List ℕ} {kind r : ℕ} {bufs : List ℕ} {
     -- following one descriptor: it was the last, or the next one comes
     follow-one : (f i : ℕ) → i < e
         → follow c (still (c .queue) t m₂) head (suc f) (getD nums i 0) (readsTo reads i spots) (writesTo reads i spots)
-        ≡ pick (eqb (i + 1) e) (whole (readsTo reads (i + 1) spots) (writesTo reads (i + 1) spots))
+        ≡ pick (eqb (i + 1) e) (whole (readsTo reads (i + 1) spots) (writesTo reads (i + 1) spots) (getD nums i 0))
         (follow c (still (c .queue) t m₂) head f (getD nums (i + 1) 0) (readsTo reads (i + 1) spots) (writesTo reads (i + 1) spots))
     unfolding follow still descOf walk
     follow-one f i h =
@@ -122,24 +122,25 @@ module _ (c : Cfg) {m : ℕ} {own : List ℕ} {kind r : ℕ} {bufs : List ℕ} {
         (getD nums (i + 1) 0) (getD spots (2 * i) 0) (ltb i reads) (eqb (i + 1) e) (omega (arith, fit .few)) (omega (arith, b .some, b .len-is)) (s .located)
         (λ x. omega (told, x)) (λ x. fit .numbers (i + 1) (omega (told, x))) in
         let l =
-        linked-as (λ n xs ys. follow c (still (c .queue) t m₂) head f n xs ys) (getD bufs (2 * i) 0) (getD bufs (2 * i + 1) 0) (getD nums (i + 1) 0)
+        linked-as (λ n xs ys. follow c (still (c .queue) t m₂) head f n xs ys) (getD nums i 0) (getD bufs (2 * i) 0) (getD bufs (2 * i + 1) 0) (getD nums (i + 1) 0)
         (getD spots (2 * i) 0) (readsTo reads i spots) (writesTo reads i spots) (ltb i reads) (eqb (i + 1) e) in
         rw (d, a, l, ← (b .len-is), reads-more reads i spots (ltb i reads) refl, writes-more reads i spots (ltb i reads) refl)
 
     -- .. so n + 1 of them, from that of buffer i on, come to all of the chain
     follow-all : (n f i : ℕ) → i + suc n ≡ e → n ≤ f
         → follow c (still (c .queue) t m₂) head (suc f) (getD nums i 0) (readsTo reads i spots) (writesTo reads i spots)
-        ≡ whole (spans reads 0 spots) (spans (e - reads) reads spots)
+        ≡ whole (spans reads 0 spots) (spans (e - reads) reads spots) (getD nums (e - 1) 0)
     follow-all zero f i h l =
         let x : i + 1 ≡ e = omega arith in
         let y : min e reads ≡ reads = omega (arith, fit .reads-in) in
-        follow-one f i (omega arith) ∙ rw (eq-eqb (i + 1) e x, x, y)
+        let z : e - 1 ≡ i = omega arith in
+        follow-one f i (omega arith) ∙ rw (z, eq-eqb (i + 1) e x, x, y)
     follow-all (suc n) zero i h l = absurd (omega arith)
     follow-all (suc n) (suc f) i h l =
         follow-one (suc f) i (omega arith) ∙ rw (ne-eqb (i + 1) e (λ z. omega arith)) (follow-all n f (i + 1) (omega arith) (omega arith))
 
     pub follow-whole : (x f : ℕ) → x ≡ getD nums 0 0 → e ≤ f + 1
-        → follow c (still (c .queue) t m₂) head (f + 1) x [] [] ≡ whole (spans reads 0 spots) (spans (e - reads) reads spots)
+        → follow c (still (c .queue) t m₂) head (f + 1) x [] [] ≡ whole (spans reads 0 spots) (spans (e - reads) reads spots) (getD nums (e - 1) 0)
     unfolding spans
     follow-whole x f k h =
         let a : min 0 reads ≡ 0 = omega arith in
@@ -155,7 +156,7 @@ module _ (c : Cfg) {m : ℕ} {own : List ℕ} {kind r : ℕ} {bufs : List ℕ} {
   taken-here message m₂ st t a backing k hp hq =
       let n = fit .numbers 0 (omega (arith, writes-some fit)) in
       let l = length-spans (e - reads) reads spots in
-      serve-as c (still (c .queue) t m₂) t a backing (spans reads 0 spots) (spans (e - reads) reads spots) hp hq (rw k n) (omega (arith, writes-some fit))
+      serve-as c (still (c .queue) t m₂) t a backing (spans reads 0 spots) (spans (e - reads) reads spots) (getD nums (e - 1) 0) hp hq (rw k n) (omega (arith, writes-some fit))
       (follow-whole message m₂ st t (word 2 (availAt (c .queue) t) m₂) (word 2 (availAt (c .queue) t) m₂) (c .queue .size) k (omega (arith, fit .few)))
       ∙ rw (k, st .holds, fit .readable)
 

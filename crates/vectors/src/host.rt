@@ -55,7 +55,7 @@ fn tell(state: &[usize], answer: usize, lines: bool) {
 }
 
 pub fn say_status(state: &[usize]) {
-    let mut out = [9; 8];
+    let mut out = [9; 10];
     hostiledisk::hd_status(state, &mut out);
     say::numbers(&out);
 }
@@ -80,9 +80,21 @@ pub fn run(
     }
 }
 
-// The broken reason; 0 if in order.
-pub fn reason(state: &[usize]) -> usize {
-    let mut out = [9; 8];
+// Is the queue broken? Then it says the reason, at which descriptor, as which of its chain, and how many the last
+// complete chain had.
+pub fn broken(state: &[usize]) -> bool {
+    let mut out = [9; 10];
     hostiledisk::hd_status(state, &mut out);
-    out[1]
+    if out[1] == 0 {
+        return false;
+    }
+    say::text(b", broken ");
+    say::number(out[1]);
+    say::text(b" at descriptor ");
+    say::number(out[8]);
+    say::text(b", number ");
+    say::number(out[6]);
+    say::text(b" of its chain, last chain ");
+    say::number(out[9]);
+    true
 }

@@ -48,6 +48,7 @@ fn rows_03(mem: &mut Bytes, backing: &mut Bytes, stage: &mut Stage, disk: &Bytes
     requests::three(mem, backing, stage);
     requests::rows(mem, backing, stage);
     requests::seven(mem, backing, stage);
+    split::refused(mem, backing, stage);
     split::out(mem, backing, stage, disk);
 }
 

@@ -10,7 +10,7 @@ pub fn told(name: &[u8], answer: usize) {
 }
 
 fn memory(name: &[u8], map: &[usize]) {
-    let mut state = [0; 52];
+    let mut state = [0; 53];
     told(name, hostiledisk::hd_memory(&mut state, map, 65536));
 }
 
@@ -40,7 +40,7 @@ fn disk_name(i: usize) {
 }
 
 fn disk(i: usize, start: usize, sectors: usize, id: &[u8]) {
-    let mut state = [0; 52];
+    let mut state = [0; 53];
     host::set_memory(&mut state, 65536);
     let answer = hostiledisk::hd_disk(&mut state, start, sectors, 0, id, 65536);
     disk_name(i);
@@ -70,7 +70,7 @@ fn queue_name(i: usize) {
 
 // The areas of a queue on the memory of 01 §6.
 fn queue(i: usize, size: usize, desc: usize, avail: usize, used: usize) {
-    let mut state = [0; 52];
+    let mut state = [0; 53];
     host::set_memory(&mut state, 65536);
     host::set_disk(&mut state, 0, 65536);
     let answer = hostiledisk::hd_enable(&mut state, size, desc, avail, used, 16, 1048576);
@@ -98,7 +98,7 @@ pub fn queues() {
 }
 
 fn room(i: usize, chain: usize, stage: usize, start: usize) {
-    let mut state = [0; 52];
+    let mut state = [0; 53];
     host::set_memory(&mut state, 65536);
     host::set_disk(&mut state, 0, 65536);
     let answer = host::set_queue(&mut state, chain, stage, start);

@@ -61,12 +61,26 @@ fn answer(m: &Bytes, before: &Bytes) {
     areas::changed(m, before, 0x4100, 0x6001);
 }
 
+// The same with len 0 in its third descriptor, which is number 4 of the table.
+pub fn refused(m: &mut Bytes, backing: &mut Bytes, stage: &mut Stage) {
+    lay(m);
+    guest::poke(m, 0x1048, 4, 0);
+    let before = *m;
+    let mut state = [0; 53];
+    host::set_up(&mut state, 0, 0);
+    say::text(b"OUT, sector 5, len 0 in descriptor 4: ");
+    host::run(&mut state, m, backing, stage, false);
+    host::broken(&state);
+    areas::changed(m, &before, 0x4100, 0x6001);
+    areas::clear(m, 0x4100, 0x4306);
+}
+
 // disk is what stood in the backing slice at the beginning.
 pub fn out(m: &mut Bytes, backing: &mut Bytes, stage: &mut Stage, disk: &Bytes) {
     lay(m);
     laid(m);
     let before = *m;
-    let mut state = [0; 52];
+    let mut state = [0; 53];
     host::set_up(&mut state, 0, 0);
     host::run(&mut state, m, backing, stage, true);
     answer(m, &before);

@@ -22,7 +22,14 @@ fn status(state: &[usize]) {
         b"hd_status, 8 words",
         hostiledisk::hd_status(state, &mut eight),
     );
+    let mut nine = [9; 9];
+    told(
+        b"hd_status, 9 words",
+        hostiledisk::hd_status(state, &mut nine),
+    );
     say::text(b"hd_status says");
+    say::numbers(&nine);
+    say::text(b"\nhd_status, 10 words, says");
     host::say_status(state);
     say::line();
 }
@@ -55,20 +62,20 @@ fn reset(state: &mut [usize], m: &mut Bytes, b: &mut Bytes, s: &mut Stage) {
 }
 
 pub fn zeros(m: &mut Bytes, b: &mut Bytes, s: &mut Stage) {
-    let mut state = [0; 52];
+    let mut state = [0; 53];
     say::text(b"A state of zeros:\n");
     calls(&mut state, m, b, s);
 }
 
 pub fn short(m: &mut Bytes, b: &mut Bytes, s: &mut Stage) {
-    let mut state = [0; 51];
-    say::text(b"A state of 51 words:\n");
+    let mut state = [0; 52];
+    say::text(b"A state of 52 words:\n");
     calls(&mut state, m, b, s);
 }
 
 // Nobody has laid anything into its memory.
 pub fn enabled(m: &mut Bytes, b: &mut Bytes, s: &mut Stage) {
-    let mut state = [0; 52];
+    let mut state = [0; 53];
     host::set_up(&mut state, 0, 0);
     say::text(b"An enabled queue, idx 0xeeee:\n");
     calls(&mut state, m, b, s);
@@ -101,7 +108,7 @@ fn slice_name(i: usize) {
 pub fn slices(m: &mut Bytes, b: &mut Bytes, s: &mut Stage) {
     let mut i = 0;
     while i < 5 {
-        let mut state = [0; 52];
+        let mut state = [0; 53];
         told_more(&mut state, i);
         slice_name(i);
         step(b", hd_step", &mut state, m, b, s);

@@ -1,5 +1,5 @@
 // The table of 01 §6: changes to V1 with data and status in one writable buffer of 513 bytes, each alone.
-// A line: the answers of the steps; broken and the reason, or the used ring's first 12 bytes; what changed.
+// A line: the answers of the steps; broken, why and where, or the used ring's first 12 bytes; what changed.
 use crate::areas;
 use crate::guest;
 use crate::guest::Bytes;
@@ -48,23 +48,16 @@ fn cell(k: usize) -> usize {
     0
 }
 
-fn outcome(reason: usize, mem: &Bytes) {
-    if reason == 0 {
-        areas::show(b", used ring", mem, 0x3000, 12);
-        return;
-    }
-    say::text(b", broken ");
-    say::number(reason);
-}
-
 // What was laid is run by a fresh device; its data may go to the places from up to to.
 fn play(mem: &mut Bytes, backing: &mut Bytes, stage: &mut Stage, from: usize, to: usize) {
     let before = *mem;
-    let mut state = [0; 52];
+    let mut state = [0; 53];
     host::set_up(&mut state, 0, 0);
     say::text(b": ");
     host::run(&mut state, mem, backing, stage, false);
-    outcome(host::reason(&state), mem);
+    if !host::broken(&state) {
+        areas::show(b", used ring", mem, 0x3000, 12);
+    }
     areas::changed(mem, &before, from, to);
     areas::clear(mem, from, to);
 }

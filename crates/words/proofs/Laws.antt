@@ -26,6 +26,7 @@ pub record QueueOk (s : List ℕ) : Type 0 where
   pub stage-long : 1048576 ≤ getD s 39 0
   pub taken-low : getD s 40 0 < 65536
   pub answered-low : getD s 41 0 < 65536
+  pub descs-low : getD s 52 0 ≤ getD s 34 0
 
 pub queue-ok : (s : List ℕ) → queueOk s ≡ true → QueueOk s
 unfolding queueOk lentOk
@@ -37,6 +38,7 @@ queue-ok s e =
     let f = both-split (leb (2 * getD s 34 0) (getD s 38 0)) _ (d .1) in
     let g = both-split (leb 1048576 (getD s 39 0)) _ (f .1) in
     let h = both-split (ltb (getD s 40 0) 65536) _ (g .1) in
+    let i = both-split (ltb (getD s 41 0) 65536) _ (h .1) in
     let z = size-range (getD s 34 0) (a .0) in
     record {
       size-some = z .0;
@@ -48,6 +50,7 @@ queue-ok s e =
       stage-long = omega told;
       taken-low = omega told;
       answered-low = omega told;
+      descs-low = omega told;
     }
 
 -- an enabled queue: what doesn't hang on the phase, and the phase

@@ -1,13 +1,14 @@
 -- What is saved is found again: the words after a step decode to the model's state.
 use Prim.Native.Nat.{ℕ, _+_, _≤_, _<_}
-use mathlib.Core.List.{List, [], _∷_}
+use mathlib.Core.List.{List, [], _∷_, _++_}
 use mathlib.Core.Path.{_≡_, refl, sym, _∙_, ap}
 use native.Mathlib.Omega.{arith}
-use lib.ListN.{getD, length, set}
+use lib.ListN.{getD, length, set, length-set}
+use lib.Seq.{getD-set-same, getD-set-other}
 use Rattle.model.specs.Bytes.{put}
-use Rattle.model.proofs.Lists.{Apart, put-in, put-apart, put-cons, put-same, length-put}
+use Rattle.model.proofs.Lists.{Apart, put-in, put-apart, put-cons, put-same, put-same-last, put-over, length-put}
 use Rattle.words.specs.declared.Row.{Row}
-use Rattle.words.specs.Layout.{jobTag, jobSector, jobOf, rowOf, phaseOf, rowAt, rowWords, saved, kept}
+use Rattle.words.specs.Layout.{stateWords, jobTag, jobSector, jobOf, rowOf, phaseOf, rowAt, rowWords, saved, kept}
 use Rattle.model.specs.declared.Job.{Job}
 use Rattle.model.specs.declared.Job.the-variants.{Failed, Unsupported, Done, Read, Write, Identity}
 use Rattle.model.specs.declared.Phase.{Phase}
@@ -31,56 +32,79 @@ phase-again (Header k p got) = refl
 phase-again (Payload k p s got) = refl
 phase-again (Answer k job got) = ap (λ (j : Job). Answer k j got) (job-again job)
 phase-again (Publish k got) = refl
-phase-again (Broken reason head count) = refl
+phase-again (Broken reason head count at) = refl
 
--- the counters first, then the phase's words
-pub saved-row : (s : List ℕ) (t a : ℕ) (p : Phase) (x : Row) → x ≡ rowOf p → put (set (set s 40 t) 41 a) 42 (rowWords x) ≡ saved s t a p
-unfolding saved
-saved-row s t a p x e =
-    rw e (sym (put-cons s 40 t (a ∷ rowWords (rowOf p)) ∙ put-cons (set s 40 t) 41 a (rowWords (rowOf p))))
+-- the counters and the last complete chain's number first, then the phase's words
+pub saved-row : (s : List ℕ) (t a n : ℕ) (p : Phase) (x : Row) → stateWords ≤ length s → x ≡ rowOf p
+    → put (set (set (set s 40 t) 41 a) 52 n) 42 (rowWords x) ≡ saved s t a n p
+unfolding saved rowWords
+saved-row s t a n p x h e =
+    let z = set (set s 40 t) 41 a in
+    let r = rowWords (rowOf p) in
+    let l : 52 < length z = simp length-set (omega arith) in
+    let y : getD (set z 52 n) 52 0 ≡ n = getD-set-same z 52 n 0 l in
+    rw e
+    (sym (put-same-last (set z 52 n) 42 r (simp length-set (omega arith))) ∙ rw y (put-over z 42 (r ++ (n ∷ [])) 52 n (omega arith) (omega arith))
+    ∙ sym (put-cons s 40 t (a ∷ (r ++ (n ∷ []))) ∙ put-cons (set s 40 t) 41 a (r ++ (n ∷ []))))
 
--- the counters lie there already
-pub kept-row : (s : List ℕ) (p : Phase) (x : Row) → 52 ≤ length s → x ≡ rowOf p → put s 42 (rowWords x) ≡ kept s p
-unfolding saved
+-- all but the phase lies there already
+pub kept-row : (s : List ℕ) (p : Phase) (x : Row) → stateWords ≤ length s → x ≡ rowOf p → put s 42 (rowWords x) ≡ kept s p
+unfolding saved rowWords
 kept-row s p x h e =
-    rw e (sym (put-same s 40 (getD s 41 0 ∷ rowWords (rowOf p)) (omega arith) ∙ put-same s 41 (rowWords (rowOf p)) (omega arith)))
+    let r = rowWords (rowOf p) in
+    rw e
+    (sym
+    (put-same s 40 (getD s 41 0 ∷ (r ++ (getD s 52 0 ∷ []))) (omega arith) ∙ put-same s 41 (r ++ (getD s 52 0 ∷ [])) (omega arith)
+    ∙ put-same-last s 42 r (omega arith)))
+
+-- S3 stores the last complete chain's number first
+pub kept-descs : (s : List ℕ) (n : ℕ) (p : Phase) → stateWords ≤ length s → kept (set s 52 n) p ≡ saved s (getD s 40 0) (getD s 41 0) n p
+unfolding saved rowWords
+kept-descs s n p h =
+    let l : 52 < length s = omega arith in
+    rw (getD-set-same s 52 n 0 l, getD-set-other s 52 40 n 0 (λ z. omega arith), getD-set-other s 52 41 n 0 (λ z. omega arith))
+    (put-over s 40 (getD s 40 0 ∷ getD s 41 0 ∷ (rowWords (rowOf p) ++ (n ∷ []))) 52 n (omega arith) (omega arith))
 
 -- word 40 + j of a saved state
-word-saved : (s : List ℕ) (t a : ℕ) (p : Phase) → 52 ≤ length s → (j : ℕ) → j < 12
-    → getD (saved s t a p) (40 + j) 0 ≡ getD (t ∷ a ∷ rowWords (rowOf p)) j 0
+word-saved : (s : List ℕ) (t a n : ℕ) (p : Phase) → stateWords ≤ length s → (j : ℕ) → j < 13
+    → getD (saved s t a n p) (40 + j) 0 ≡ getD (t ∷ a ∷ (rowWords (rowOf p) ++ (n ∷ []))) j 0
 unfolding saved rowWords
-word-saved s t a p h j l = put-in s 40 (t ∷ a ∷ rowWords (rowOf p)) j l (omega arith)
+word-saved s t a n p h j l = put-in s 40 (t ∷ a ∷ (rowWords (rowOf p) ++ (n ∷ []))) j l (omega arith)
 
-pub row-saved : (s : List ℕ) (t a : ℕ) (p : Phase) → 52 ≤ length s → rowAt (saved s t a p) ≡ rowOf p
+pub row-saved : (s : List ℕ) (t a n : ℕ) (p : Phase) → stateWords ≤ length s → rowAt (saved s t a n p) ≡ rowOf p
 unfolding rowAt rowWords
-row-saved s t a p h =
+row-saved s t a n p h =
     rw (
-      word-saved s t a p h 2 (omega arith),
-      word-saved s t a p h 3 (omega arith),
-      word-saved s t a p h 4 (omega arith),
-      word-saved s t a p h 5 (omega arith),
-      word-saved s t a p h 6 (omega arith),
-      word-saved s t a p h 7 (omega arith),
-      word-saved s t a p h 8 (omega arith),
-      word-saved s t a p h 9 (omega arith),
-      word-saved s t a p h 10 (omega arith),
-      word-saved s t a p h 11 (omega arith),
+      word-saved s t a n p h 2 (omega arith),
+      word-saved s t a n p h 3 (omega arith),
+      word-saved s t a n p h 4 (omega arith),
+      word-saved s t a n p h 5 (omega arith),
+      word-saved s t a n p h 6 (omega arith),
+      word-saved s t a n p h 7 (omega arith),
+      word-saved s t a n p h 8 (omega arith),
+      word-saved s t a n p h 9 (omega arith),
+      word-saved s t a n p h 10 (omega arith),
+      word-saved s t a n p h 11 (omega arith),
     )
 
-pub phase-saved : (s : List ℕ) (t a : ℕ) (p : Phase) → 52 ≤ length s → phaseOf (rowAt (saved s t a p)) ≡ p
-phase-saved s t a p h = ap phaseOf (row-saved s t a p h) ∙ phase-again p
+pub phase-saved : (s : List ℕ) (t a n : ℕ) (p : Phase) → stateWords ≤ length s → phaseOf (rowAt (saved s t a n p)) ≡ p
+phase-saved s t a n p h = ap phaseOf (row-saved s t a n p h) ∙ phase-again p
 
-pub taken-saved : (s : List ℕ) (t a : ℕ) (p : Phase) → 52 ≤ length s → getD (saved s t a p) 40 0 ≡ t
-taken-saved s t a p h = word-saved s t a p h 0 (omega arith)
+pub taken-saved : (s : List ℕ) (t a n : ℕ) (p : Phase) → stateWords ≤ length s → getD (saved s t a n p) 40 0 ≡ t
+taken-saved s t a n p h = word-saved s t a n p h 0 (omega arith)
 
-pub answered-saved : (s : List ℕ) (t a : ℕ) (p : Phase) → 52 ≤ length s → getD (saved s t a p) 41 0 ≡ a
-answered-saved s t a p h = word-saved s t a p h 1 (omega arith)
+pub answered-saved : (s : List ℕ) (t a n : ℕ) (p : Phase) → stateWords ≤ length s → getD (saved s t a n p) 41 0 ≡ a
+answered-saved s t a n p h = word-saved s t a n p h 1 (omega arith)
+
+pub descs-saved : (s : List ℕ) (t a n : ℕ) (p : Phase) → stateWords ≤ length s → getD (saved s t a n p) 52 0 ≡ n
+unfolding rowWords
+descs-saved s t a n p h = word-saved s t a n p h 12 (omega arith)
 
 -- the words that set-up wrote stay
-pub others-saved : (s : List ℕ) (t a : ℕ) (p : Phase) (i : ℕ) → Apart i 40 12 → getD (saved s t a p) i 0 ≡ getD s i 0
+pub others-saved : (s : List ℕ) (t a n : ℕ) (p : Phase) (i : ℕ) → Apart i 40 13 → getD (saved s t a n p) i 0 ≡ getD s i 0
 unfolding saved rowWords
-others-saved s t a p i h = put-apart s 40 (t ∷ a ∷ rowWords (rowOf p)) i h
+others-saved s t a n p i h = put-apart s 40 (t ∷ a ∷ (rowWords (rowOf p) ++ (n ∷ []))) i h
 
-pub length-saved : (s : List ℕ) (t a : ℕ) (p : Phase) → length (saved s t a p) ≡ length s
+pub length-saved : (s : List ℕ) (t a n : ℕ) (p : Phase) → length (saved s t a n p) ≡ length s
 unfolding saved
-length-saved s t a p = length-put s 40 (t ∷ a ∷ rowWords (rowOf p))
+length-saved s t a n p = length-put s 40 (t ∷ a ∷ (rowWords (rowOf p) ++ (n ∷ [])))

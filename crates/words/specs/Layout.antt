@@ -4,9 +4,10 @@
 --   27 first byte of the disk   28 sectors   29 read-only   30 length of the backing slice   31 to 33 the identity
 --   34 queue size   35 to 37 slice offsets of descriptors, available and used ring   38 chain words lent   39 staging bytes lent
 --   40 taken   41 answered   42 to 51 the phase: its number, then the request at hand, then four words of its own
+--   52 the number of descriptors of the last complete chain
 use Prim.Native.Nat.{ℕ, _+_, _-_, _*_, _^_}
 use mathlib.Core.Bool.{Bool, true, false}
-use mathlib.Core.List.{List, [], _∷_}
+use mathlib.Core.List.{List, [], _∷_, _++_}
 use lib.Dec.{leb, ltb, eqb}
 use lib.ListN.{getD, length}
 use Rattle.model.specs.Pick.{pick, both}
@@ -25,7 +26,7 @@ use Rattle.device.specs.declared.Config.{Config}
 use Rattle.words.specs.declared.Row.{Row}
 
 abbrev pub stateWords : ℕ
-stateWords = 52
+stateWords = 53
 
 -- the phase as numbers
 unfoldable pub jobTag : Job → ℕ
@@ -58,7 +59,7 @@ rowOf (Header k p got) = row 4 k (p .buf) (p .skip) 0 got
 rowOf (Payload k p s got) = row 5 k (p .buf) (p .skip) s got
 rowOf (Answer k job got) = row 6 k (jobTag job) 0 (jobSector job) got
 rowOf (Publish k got) = row 7 k 0 0 0 got
-rowOf (Broken reason head count) = row 8 (record { head = head; count = count; reads = 0; r = 0; w = 0 }) reason 0 0 0
+rowOf (Broken reason head count at) = row 8 (record { head = head; count = count; reads = 0; r = 0; w = 0 }) reason at 0 0
 
 -- .. and back
 unfoldable pub jobOf : ℕ → ℕ → Job
@@ -76,7 +77,7 @@ phaseOf x =
     (pick (eqb (x .tag) 4) (Header (walkOf x) (record { buf = x .a; skip = x .b }) (x .d))
     (pick (eqb (x .tag) 5) (Payload (walkOf x) (record { buf = x .a; skip = x .b }) (x .c) (x .d))
     (pick (eqb (x .tag) 6) (Answer (walkOf x) (jobOf (x .a) (x .c)) (x .d))
-    (pick (eqb (x .tag) 7) (Publish (walkOf x) (x .d)) (Broken (x .a) (x .head) (x .count))))))))
+    (pick (eqb (x .tag) 7) (Publish (walkOf x) (x .d)) (Broken (x .a) (x .head) (x .count) (x .b))))))))
 
 unfoldable pub rowAt : List ℕ → Row
 rowAt s =
@@ -96,13 +97,13 @@ rowAt s =
 unfoldable pub rowWords : Row → List ℕ
 rowWords x = x .tag ∷ x .head ∷ x .count ∷ x .reads ∷ x .r ∷ x .w ∷ x .a ∷ x .b ∷ x .c ∷ x .d ∷ []
 
--- the state with these counters and this phase
-unfoldable pub saved : List ℕ → ℕ → ℕ → Phase → List ℕ
-saved s taken answered p = put s 40 (taken ∷ answered ∷ rowWords (rowOf p))
+-- the state with these counters, this number of descriptors of the last complete chain, and this phase
+unfoldable pub saved : List ℕ → ℕ → ℕ → ℕ → Phase → List ℕ
+saved s taken answered descs p = put s 40 (taken ∷ answered ∷ (rowWords (rowOf p) ++ (descs ∷ [])))
 
--- .. with the counters that it has: most steps change the phase alone
+-- .. with the numbers that it has: most steps change the phase alone
 abbrev pub kept : List ℕ → Phase → List ℕ
-kept s p = saved s (getD s 40 0) (getD s 41 0) p
+kept s p = saved s (getD s 40 0) (getD s 41 0) (getD s 52 0) p
 
 -- the request at hand, and the place in its buffers
 abbrev pub walkAt : List ℕ → Walk
@@ -133,9 +134,10 @@ memoryOk s = both (leb 1 (getD s 2 0)) (both (leb (getD s 2 0) 8) (sound (getD s
 unfoldable pub diskOk : List ℕ → Bool
 diskOk s = both (eqb (diskCode (getD s 27 0) (getD s 28 0) (getD s 30 0)) 0) (both (leb (getD s 29 0) 1) (ltb (getD s 33 0) (2 ^ 32)))
 
--- the memory that was lent for this queue, and the counters
-unfoldable pub lentOk : ℕ → ℕ → ℕ → ℕ → ℕ → Bool
-lentOk q chain stage taken answered = both (leb (2 * q) chain) (both (leb 1048576 stage) (both (ltb taken 65536) (ltb answered 65536)))
+-- the memory that was lent for this queue, the counters, and how many descriptors a chain may have had
+unfoldable pub lentOk : ℕ → ℕ → ℕ → ℕ → ℕ → ℕ → Bool
+lentOk q chain stage taken answered descs =
+    both (leb (2 * q) chain) (both (leb 1048576 stage) (both (ltb taken 65536) (both (ltb answered 65536) (leb descs q))))
 
 unfoldable pub queueOk : List ℕ → Bool
 queueOk s =
@@ -143,7 +145,7 @@ queueOk s =
     (both (leb (getD s 35 0 + 16 * getD s 34 0) (getD s 1 0))
     (both (leb (getD s 36 0 + (6 + 2 * getD s 34 0)) (getD s 1 0))
     (both (leb (getD s 37 0 + (6 + 8 * getD s 34 0)) (getD s 1 0))
-    (lentOk (getD s 34 0) (getD s 38 0) (getD s 39 0) (getD s 40 0) (getD s 41 0)))))
+    (lentOk (getD s 34 0) (getD s 38 0) (getD s 39 0) (getD s 40 0) (getD s 41 0) (getD s 52 0)))))
 
 -- .. and steps: a phase's number, a job's number, and numbers that fit together
 unfoldable pub tagsOk : ℕ → ℕ → Bool

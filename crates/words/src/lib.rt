@@ -5,7 +5,7 @@ ghost use Prim.Native.Nat.{_+_, _*_, _≤_};
 ghost use lib.Dec.{leb};
 ghost use lib.ListN.{length, getD};
 ghost use Rattle.model.specs.Bytes.{put};
-ghost use Rattle.words.specs.Layout.{jobTag, jobSector, row, rowOf, jobOf, phaseOf, rowAt, rowWords, saved, kept, configAt, walkAt, placeAt, memoryOk, diskOk, queueOk, lentOk, tagsOk, phaseOk, enabledOk, framed, level};
+ghost use Rattle.words.specs.Layout.{stateWords, jobTag, jobSector, row, rowOf, jobOf, phaseOf, rowAt, rowWords, saved, kept, configAt, walkAt, placeAt, memoryOk, diskOk, queueOk, lentOk, tagsOk, phaseOk, enabledOk, framed, level};
 use model::Disk;
 use model::Job;
 use model::Phase;
@@ -114,11 +114,11 @@ pub fn row_of(p: Phase) -> Row
         Phase::Payload(k, at, s, got) => numbers(5, k, at.buf, at.skip, s, got),
         Phase::Answer(k, job, got) => numbers(6, k, job_tag(job), 0, job_sector(job), got),
         Phase::Publish(k, got) => numbers(7, k, 0, 0, 0, got),
-        Phase::Broken(reason, head, count) => numbers(
+        Phase::Broken(reason, head, count, at) => numbers(
             8,
             walk(head, count, 0, 0, 0),
             reason,
-            0,
+            at,
             0,
             0,
         ),
@@ -165,11 +165,11 @@ pub fn phase_of(x: Row) -> Phase
     if x.tag == 7 {
         return Phase::Publish(k, x.d);
     }
-    Phase::Broken(x.a, x.head, x.count)
+    Phase::Broken(x.a, x.head, x.count, x.b)
 }
 
 pub fn row_at(s: &[usize]) -> Row
-    requires { ⌜ 52 ≤ length (now s) ⌝ }
+    requires { ⌜ stateWords ≤ length (now s) ⌝ }
     ensures { λ z. ⌜ z ≡ rowAt (now (s .entry)) ⌝ }
 {
     Row {
@@ -187,7 +187,7 @@ pub fn row_at(s: &[usize]) -> Row
 }
 
 fn save_row(s: &mut [usize], x: Row)
-    requires { ⌜ 52 ≤ length (now s) ⌝ }
+    requires { ⌜ stateWords ≤ length (now s) ⌝ }
     ensures { λ _. ⌜ now (s .exit) ≡ put (now (s .entry)) 42 (rowWords x) ⌝ }
 {
     s[42] = x.tag;
@@ -202,19 +202,20 @@ fn save_row(s: &mut [usize], x: Row)
     s[51] = x.d;
 }
 
-// The counters and the phase are all that steps change.
-pub fn save(s: &mut [usize], taken: usize, answered: usize, p: Phase)
-    requires { ⌜ 52 ≤ length (now s) ⌝ }
-    ensures { λ _. ⌜ now (s .exit) ≡ saved (now (s .entry)) taken answered p ⌝ }
+// The counters, the last complete chain's number of descriptors and the phase are all that steps change.
+pub fn save(s: &mut [usize], taken: usize, answered: usize, descs: usize, p: Phase)
+    requires { ⌜ stateWords ≤ length (now s) ⌝ }
+    ensures { λ _. ⌜ now (s .exit) ≡ saved (now (s .entry)) taken answered descs p ⌝ }
 {
     s[40] = taken;
     s[41] = answered;
+    s[52] = descs;
     save_row(s, row_of(p));
 }
 
 // Most steps change the phase alone.
 pub fn save_phase(s: &mut [usize], p: Phase)
-    requires { ⌜ 52 ≤ length (now s) ⌝ }
+    requires { ⌜ stateWords ≤ length (now s) ⌝ }
     ensures { λ _. ⌜ now (s .exit) ≡ kept (now (s .entry)) p ⌝ }
 {
     save_row(s, row_of(p));
@@ -222,21 +223,21 @@ pub fn save_phase(s: &mut [usize], p: Phase)
 
 // The two phases that a long request stays in for many steps are saved without a choice by the phase.
 pub fn save_chain(s: &mut [usize], k: Walk, cur: usize)
-    requires { ⌜ 52 ≤ length (now s) ⌝ }
+    requires { ⌜ stateWords ≤ length (now s) ⌝ }
     ensures { λ _. ⌜ now (s .exit) ≡ kept (now (s .entry)) (Phase.Chain k cur) ⌝ }
 {
     save_row(s, numbers(3, k, cur, 0, 0, 0));
 }
 
 pub fn save_payload(s: &mut [usize], k: Walk, at: Place, sector: usize, got: usize)
-    requires { ⌜ 52 ≤ length (now s) ⌝ }
+    requires { ⌜ stateWords ≤ length (now s) ⌝ }
     ensures { λ _. ⌜ now (s .exit) ≡ kept (now (s .entry)) (Phase.Payload k at sector got) ⌝ }
 {
     save_row(s, numbers(5, k, at.buf, at.skip, sector, got));
 }
 
 pub fn queue_at(s: &[usize]) -> Queue
-    requires { ⌜ 52 ≤ length (now s) ⌝ }
+    requires { ⌜ stateWords ≤ length (now s) ⌝ }
     ensures { λ z. ⌜ z ≡ configAt (now (s .entry)) .queue ⌝ }
 {
     Queue {
@@ -248,7 +249,7 @@ pub fn queue_at(s: &[usize]) -> Queue
 }
 
 pub fn disk_at(s: &[usize]) -> Disk
-    requires { ⌜ 52 ≤ length (now s) ⌝ }
+    requires { ⌜ stateWords ≤ length (now s) ⌝ }
     ensures { λ z. ⌜ z ≡ configAt (now (s .entry)) .disk ⌝ }
 {
     Disk {
@@ -259,14 +260,14 @@ pub fn disk_at(s: &[usize]) -> Disk
 }
 
 pub fn walk_at(s: &[usize]) -> Walk
-    requires { ⌜ 52 ≤ length (now s) ⌝ }
+    requires { ⌜ stateWords ≤ length (now s) ⌝ }
     ensures { λ z. ⌜ z ≡ walkAt (now (s .entry)) ⌝ }
 {
     walk(s[43], s[44], s[45], s[46], s[47])
 }
 
 pub fn place_at(s: &[usize]) -> Place
-    requires { ⌜ 52 ≤ length (now s) ⌝ }
+    requires { ⌜ stateWords ≤ length (now s) ⌝ }
     ensures { λ z. ⌜ z ≡ placeAt (now (s .entry)) ⌝ }
 {
     Place {
@@ -276,7 +277,7 @@ pub fn place_at(s: &[usize]) -> Place
 }
 
 fn memory_ok(s: &[usize]) -> bool
-    requires { ⌜ 52 ≤ length (now s) ⌝ }
+    requires { ⌜ stateWords ≤ length (now s) ⌝ }
     ensures { λ z. ⌜ z ≡ memoryOk (now (s .entry)) ⌝ }
 {
     let n = s[2];
@@ -291,7 +292,7 @@ fn memory_ok(s: &[usize]) -> bool
 }
 
 fn disk_ok(s: &[usize]) -> bool
-    requires { ⌜ 52 ≤ length (now s) ⌝ }
+    requires { ⌜ stateWords ≤ length (now s) ⌝ }
     ensures { λ z. ⌜ z ≡ diskOk (now (s .entry)) ⌝ }
 {
     if disk::disk_code(s[27], s[28], s[30]) != 0 {
@@ -316,9 +317,16 @@ fn area_ok(m: usize, at: usize, n: usize) -> bool
     true
 }
 
-fn lent_ok(q: usize, chain: usize, stage: usize, taken: usize, answered: usize) -> bool
+fn lent_ok(
+    q: usize,
+    chain: usize,
+    stage: usize,
+    taken: usize,
+    answered: usize,
+    descs: usize,
+) -> bool
     requires { ⌜ q ≤ 256 ⌝ }
-    ensures { λ z. ⌜ z ≡ lentOk q chain stage taken answered ⌝ }
+    ensures { λ z. ⌜ z ≡ lentOk q chain stage taken answered descs ⌝ }
 {
     if chain < 2 * q {
         return false;
@@ -329,11 +337,14 @@ fn lent_ok(q: usize, chain: usize, stage: usize, taken: usize, answered: usize) 
     if 65536 <= taken {
         return false;
     }
-    answered < 65536
+    if 65536 <= answered {
+        return false;
+    }
+    descs <= q
 }
 
 fn queue_ok(s: &[usize]) -> bool
-    requires { ⌜ 52 ≤ length (now s) ⌝ }
+    requires { ⌜ stateWords ≤ length (now s) ⌝ }
     ensures { λ z. ⌜ z ≡ queueOk (now (s .entry)) ⌝ }
 {
     let q = s[34];
@@ -342,7 +353,7 @@ fn queue_ok(s: &[usize]) -> bool
         if area_ok(m, s[35], 16 * q) {
             if area_ok(m, s[36], 6 + 2 * q) {
                 if area_ok(m, s[37], 6 + 8 * q) {
-                    return lent_ok(q, s[38], s[39], s[40], s[41]);
+                    return lent_ok(q, s[38], s[39], s[40], s[41], s[52]);
                 }
                 return false;
             }
@@ -369,7 +380,7 @@ fn tags_ok(tag: usize, job: usize) -> bool
 }
 
 fn phase_ok(s: &[usize]) -> bool
-    requires { ⌜ 52 ≤ length (now s) ⌝ }
+    requires { ⌜ stateWords ≤ length (now s) ⌝ }
     requires { ⌜ getD (now s) 34 0 ≤ 256 ⌝ }
     ensures { λ z. ⌜ z ≡ phaseOk (now (s .entry)) ⌝ }
 {
@@ -382,7 +393,7 @@ fn phase_ok(s: &[usize]) -> bool
 }
 
 fn enabled_ok(s: &[usize]) -> bool
-    requires { ⌜ 52 ≤ length (now s) ⌝ }
+    requires { ⌜ stateWords ≤ length (now s) ⌝ }
     ensures { λ z. ⌜ z ≡ enabledOk (now (s .entry)) ⌝ }
 {
     if queue_ok(s) {
@@ -393,7 +404,7 @@ fn enabled_ok(s: &[usize]) -> bool
 
 // Is a queue enabled, as far as that doesn't hang on the phase? A step tests the rest by itself, for its own phase alone.
 pub fn framed(s: &[usize]) -> bool
-    requires { ⌜ 52 ≤ length (now s) ⌝ }
+    requires { ⌜ stateWords ≤ length (now s) ⌝ }
     ensures { λ z. ⌜ z ≡ framed (now (s .entry)) ⌝ }
 {
     if s[0] == 3 {
@@ -410,7 +421,7 @@ pub fn framed(s: &[usize]) -> bool
 
 // How far set-up has come: 0 nothing, 1 memory, 2 disk, 3 enabled.
 pub fn level(s: &[usize]) -> usize
-    requires { ⌜ 52 ≤ length (now s) ⌝ }
+    requires { ⌜ stateWords ≤ length (now s) ⌝ }
     ensures { λ z. ⌜ z ≡ level (now (s .entry)) ⌝ }
 {
     let tag = s[0];

@@ -41,7 +41,7 @@ laid (x ∷ xs) = put (laid xs) (x .0) (x .1)
 -- both counters at t, nothing at hand, and private memory that holds 0
 unfoldable pub fresh : ℕ → List ℕ → Out
 fresh t mem =
-    record { state = record { taken = t; answered = t; phase = Poll }; mem = mem; backing = backing; chain = replicate 16 0; stage = replicate 16 0; code = 0 }
+    record { state = record { taken = t; answered = t; descs = 0; phase = Poll }; mem = mem; backing = backing; chain = replicate 16 0; stage = replicate 16 0; code = 0 }
 
 -- one call after another
 unfoldable pub again : ℕ → Out → Out
@@ -92,22 +92,25 @@ same [] (y ∷ ys) = false
 same (x ∷ xs) [] = false
 same (x ∷ xs) (y ∷ ys) = both (eqb x y) (same xs ys)
 
-unfoldable pub phaseIs : Phase → ℕ → ℕ → ℕ → Bool
-phaseIs Poll a b c = false
-phaseIs Entry a b c = false
-phaseIs (Chain k cur) a b c = false
-phaseIs (Header k p got) a b c = false
-phaseIs (Payload k p s got) a b c = false
-phaseIs (Answer k job got) a b c = false
-phaseIs (Publish k got) a b c = false
-phaseIs (Broken reason head count) a b c = both (eqb reason a) (both (eqb head b) (eqb count c))
+unfoldable pub phaseIs : Phase → ℕ → ℕ → ℕ → ℕ → Bool
+phaseIs Poll a b c d = false
+phaseIs Entry a b c d = false
+phaseIs (Chain k cur) a b c d = false
+phaseIs (Header k p got) a b c d = false
+phaseIs (Payload k p s got) a b c d = false
+phaseIs (Answer k job got) a b c d = false
+phaseIs (Publish k got) a b c d = false
+phaseIs (Broken reason head count at) a b c d = both (eqb reason a) (both (eqb head b) (both (eqb count c) (eqb at d)))
 
 unfoldable pub answeredBy : List ℕ → ℕ → ℕ → ℕ → Bool
 answeredBy mem w st len = both (eqb (getD mem (0x5000 + w - 1) 9) st) (both (eqb (word 4 0x3008 mem) len) (eqb (word 2 0x3002 mem) 1))
 
--- the queue broke after n calls: the reason, the head, the descriptors fetched; and memory and backing slice are as they were
-unfoldable pub breaks : ℕ → List ℕ → ℕ → ℕ → ℕ → Bool
-breaks n mem reason head count = both (phaseIs (after 0 n (fresh 0 mem) .state .phase) reason head count) (both (same (after 0 n (fresh 0 mem) .mem) mem) (same (after 0 n (fresh 0 mem) .backing) backing))
+-- the queue broke after n calls: the reason, the head, the descriptors fetched and the one refused; the descriptors of the last complete chain;
+-- and memory and backing slice are as they were
+unfoldable pub breaks : ℕ → List ℕ → ℕ → ℕ → ℕ → ℕ → ℕ → Bool
+breaks n mem reason head count at descs =
+    let o = after 0 n (fresh 0 mem) in
+    both (phaseIs (o .state .phase) reason head count at) (both (eqb (o .state .descs) descs) (both (same (o .mem) mem) (same (o .backing) backing)))
 
 -- one request of a readable and a writable buffer was answered by n calls: with this status byte, this length, and used idx 1
 unfoldable pub answers : ℕ → ℕ → ℕ → ℕ → ℕ → ℕ → ℕ → ℕ → Bool

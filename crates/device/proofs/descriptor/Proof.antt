@@ -19,7 +19,7 @@ same-length : tie.Need-same-length
 same-length c = search needs
 
 returns : tie.Need-returns
-returns c = let is = c .before .before .before .before .fetch .ensures .is in (rw (← is) (c .before .before .described .ensures .0), rw (← is) (c .before .before .described .ensures .1))
+returns c = let is = c .before .before .before .before .fetch .ensures .is in (rw (← is) (c .before .before .described .ensures .0), (rw (← is) (c .before .before .described .ensures .1 .0), rw (← is) (c .before .before .described .ensures .1 .1)))
 
 pub descriptor-spec : {M : Type 1} → statement M
 descriptor-spec =

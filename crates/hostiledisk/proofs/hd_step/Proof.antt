@@ -4,13 +4,14 @@ use borrow.Author.Tests.{lt-ltb}
 use Rattle.hostiledisk.specs.Calls.{hdStep}
 use Rattle.hostiledisk.proofs.Laws.{untouched-is}
 use Rattle.hostiledisk.proofs.Phases.{unframed, broken-is, short}
+use Rattle.words.specs.Layout.{stateWords}
 use borrow.Author.Needs.{needs}
 use Rattle.hostiledisk.proofs.hd_step.Statement.{statement}
 use Rattle.hostiledisk.proofs.hd_step.Tie as tie
 
 returns : tie.Need-returns
 unfolding hdStep
-returns c = rw (lt-ltb _ 52 (c .if1 .taken)) (untouched-is _ _ _ _ _ _)
+returns c = rw (lt-ltb _ stateWords (c .if1 .taken)) (untouched-is _ _ _ _ _ _)
 
 framed-requires : tie.Need-framed-requires
 framed-requires c κs = search needs

@@ -16,12 +16,19 @@ returns-3 : tie.Need-returns-3
 unfolding sane
 returns-3 c = search tests
 
-add-result : tie.Need-add-result
-add-result c = search needs
+add-if4 : tie.Need-add-if4
+add-if4 c = search needs
 
 returns-4 : tie.Need-returns-4
 unfolding sane
 returns-4 c = search tests
 
+refused-at-requires : tie.Need-refused-at-requires
+refused-at-requires c κs = search needs
+
+returns-5 : tie.Need-returns-5
+unfolding sane
+returns-5 c = search tests
+
 pub broken-sane-spec : {M : Type 1} → statement M
-broken-sane-spec = tie.close (tie.spec returns returns-2 returns-3 add-result returns-4)
+broken-sane-spec = tie.close (tie.spec returns returns-2 returns-3 add-if4 returns-4 refused-at-requires returns-5)

@@ -23,5 +23,9 @@ returns-4 : tie.Need-returns-4
 unfolding lentOk
 returns-4 c = search tests
 
+returns-5 : tie.Need-returns-5
+unfolding lentOk
+returns-5 c = search tests
+
 pub lent-ok-spec : {M : Type 1} → statement M
-lent-ok-spec = tie.close (tie.spec mul-if1 returns returns-2 returns-3 returns-4)
+lent-ok-spec = tie.close (tie.spec mul-if1 returns returns-2 returns-3 returns-4 returns-5)

@@ -60,12 +60,15 @@ shared-slice-read-lent-ok-3 c = search needs
 shared-slice-read-lent-ok-4 : tie.Need-shared-slice-read-lent-ok-4
 shared-slice-read-lent-ok-4 c = search needs
 
+shared-slice-read-lent-ok-5 : tie.Need-shared-slice-read-lent-ok-5
+shared-slice-read-lent-ok-5 c = search needs
+
 lent-ok-requires : tie.Need-lent-ok-requires
-lent-ok-requires c κs = omega (arith, size-range _ (sym (c .before .before .before .before .before .before .before .before .before .before .before .before .before .before .size-ok .ensures) ∙ c .before .before .before .before .before .before .before .before .before .before .before .before .before .if1 .taken))
+lent-ok-requires c κs = omega (arith, size-range _ (sym (c .before .before .before .before .before .before .before .before .before .before .before .before .before .before .before .size-ok .ensures) ∙ c .before .before .before .before .before .before .before .before .before .before .before .before .before .before .if1 .taken))
 
 returns : tie.Need-returns
 unfolding queueOk
-returns c = rw (← (c .before .before .before .before .before .before .before .before .before .before .before .before .before .before .before .size-ok .ensures), c .before .before .before .before .before .before .before .before .before .before .before .before .before .before .if1 .taken, ← (c .before .before .before .before .before .before .before .before .before .before .before .before .area-ok .ensures), c .before .before .before .before .before .before .before .before .before .before .before .if2 .taken, ← (c .before .before .before .before .before .before .before .before .before .area-ok2 .ensures), c .before .before .before .before .before .before .before .before .if3 .taken, ← (c .before .before .before .before .before .before .area-ok3 .ensures), c .before .before .before .before .before .if4 .taken) (c .lent-ok .ensures)
+returns c = rw (← (c .before .before .before .before .before .before .before .before .before .before .before .before .before .before .before .before .size-ok .ensures), c .before .before .before .before .before .before .before .before .before .before .before .before .before .before .before .if1 .taken, ← (c .before .before .before .before .before .before .before .before .before .before .before .before .before .area-ok .ensures), c .before .before .before .before .before .before .before .before .before .before .before .before .if2 .taken, ← (c .before .before .before .before .before .before .before .before .before .before .area-ok2 .ensures), c .before .before .before .before .before .before .before .before .before .if3 .taken, ← (c .before .before .before .before .before .before .before .area-ok3 .ensures), c .before .before .before .before .before .before .if4 .taken) (c .lent-ok .ensures)
 
 returns-2 : tie.Need-returns-2
 unfolding queueOk
@@ -105,6 +108,7 @@ queue-ok-spec =
     shared-slice-read-lent-ok-2
     shared-slice-read-lent-ok-3
     shared-slice-read-lent-ok-4
+    shared-slice-read-lent-ok-5
     lent-ok-requires
     returns
     returns-2

@@ -12,6 +12,9 @@ slice-write-s c = search needs
 slice-write-s-2 : tie.Need-slice-write-s-2
 slice-write-s-2 c = simp length-set (omega arith)
 
+slice-write-s-3 : tie.Need-slice-write-s-3
+slice-write-s-3 c = simp length-set (omega arith)
+
 row-of-requires : tie.Need-row-of-requires
 row-of-requires c κs = search needs
 
@@ -22,9 +25,9 @@ same-length : tie.Need-same-length
 same-length c = c .before .before .save-row .kept .0 ∙ simp length-set
 
 returns : tie.Need-returns
-returns c = c .before .before .save-row .ensures ∙ saved-row _ _ _ _ _ (c .before .before .before .row-of .ensures)
+returns c = c .before .before .save-row .ensures ∙ saved-row _ _ _ _ _ _ (c .before .before .before .before .before .before .pre) (c .before .before .before .row-of .ensures)
 
 pub save-spec : {M : Type 1} → statement M
 save-spec =
     tie.close
-    (tie.spec slice-write-s slice-write-s-2 row-of-requires save-row-requires same-length returns)
+    (tie.spec slice-write-s slice-write-s-2 slice-write-s-3 row-of-requires save-row-requires same-length returns)

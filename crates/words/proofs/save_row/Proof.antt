@@ -34,7 +34,7 @@ slice-write-s-9 : tie.Need-slice-write-s-9
 slice-write-s-9 c = simp length-set (omega arith)
 
 slice-write-s-10 : tie.Need-slice-write-s-10
-slice-write-s-10 c = search needs
+slice-write-s-10 c = simp length-set (omega arith)
 
 same-length : tie.Need-same-length
 same-length c = search needs

@@ -46,7 +46,7 @@ same-length-2 : tie.Need-same-length-2
 same-length-2 c = search needs
 
 returns : tie.Need-returns
-returns c = acted _ _ _ _ _ _ (held-header _ _ _ _ _ (c .before .before .before .before .before .before .before .before .before .before .before .before .before .before .before .before .before .before .before .before .before .before .before .before .before .before .pre) _ _ (c .before .before .before .before .before .before .before .before .before .before .before .before .before .before .before .before .before .before .before .walk-at .ensures) (c .before .before .before .before .before .before .before .before .before .before .before .before .before .before .before .before .before .place-at .ensures)) (sane-header _ _ _ _ _ (sym (c .before .before .before .before .before .before .before .before .before .before .before .before .before .before .header-sane .ensures) ∙ c .before .before .before .before .before .before .before .before .before .before .before .before .before .if1 .taken)) (ready-header _ _ _ _ _ (sym (c .before .before .before .before .before .before .before .before .before .before .before .place-ok .ensures) ∙ c .before .before .before .before .before .before .before .before .before .before .if2 .taken)) _ _ _ _ _ _ _ _ _ (met-header _ _ _ _ _ _ _ _ _ _ _ _ (c .before .before .before .before .before .before .header .ensures .0) (rw (c .before .before .before .before .before .before .before .before .disk-at .ensures) at (c .before .before .before .before .before .before .header .ensures .1))) (c .before .before .finish .ensures .1) _ (c .before .before .finish .ensures .0)
+returns c = acted _ _ _ _ _ _ (held-header _ _ _ _ _ (c .before .before .before .before .before .before .before .before .before .before .before .before .before .before .before .before .before .before .before .before .before .before .before .before .before .before .pre) _ _ (c .before .before .before .before .before .before .before .before .before .before .before .before .before .before .before .before .before .before .before .walk-at .ensures) (c .before .before .before .before .before .before .before .before .before .before .before .before .before .before .before .before .before .place-at .ensures)) (sane-header _ _ _ _ _ (sym (c .before .before .before .before .before .before .before .before .before .before .before .before .before .before .header-sane .ensures) ∙ c .before .before .before .before .before .before .before .before .before .before .before .before .before .if1 .taken)) (ready-header _ _ _ _ _ (sym (c .before .before .before .before .before .before .before .before .before .before .before .place-ok .ensures) ∙ c .before .before .before .before .before .before .before .before .before .before .if2 .taken)) _ _ _ _ _ _ _ _ _ _ (met-header _ _ _ _ _ _ _ _ _ _ _ _ _ (c .before .before .before .before .before .before .header .ensures .0) (rw (c .before .before .before .before .before .before .before .before .disk-at .ensures) at (c .before .before .before .before .before .before .header .ensures .1))) (c .before .before .finish .ensures .1) _ (c .before .before .finish .ensures .0)
 
 same-length-3 : tie.Need-same-length-3
 same-length-3 c = search needs

@@ -60,7 +60,7 @@ same-length-3 c = search needs
 
 returns : tie.Need-returns
 unfolding codeAfter
-returns c = let g = c .before .before .before .before .before .p .given .1 in acted _ _ _ _ _ _ (held-payload _ _ _ _ _ (c .before .before .before .before .before .before .before .before .before .before .before .before .before .before .before .before .before .before .before .before .before .before .before .before .before .before .before .before .before .before .before .before .before .before .pre) _ _ (c .before .before .before .before .before .before .before .before .before .before .before .before .before .before .before .before .before .before .before .before .before .before .before .before .before .before .before .walk-at .ensures) (c .before .before .before .before .before .before .before .before .before .before .before .before .before .before .before .before .before .before .before .before .before .before .before .before .before .place-at .ensures)) (sym (c .before .before .before .before .before .before .before .before .before .before .before .before .before .before .before .before .before .before .before .before .payload-sane .ensures) ∙ c .before .before .before .before .before .before .before .before .before .before .before .before .before .before .before .before .before .before .before .if1 .taken) (ready-payload _ _ _ _ _ _ (sym (c .before .before .before .before .before .before .before .before .before .before .before .before .before .before .before .before .before .payload-ready .ensures) ∙ c .before .before .before .before .before .before .before .before .before .before .before .before .before .before .before .before .if2 .taken)) _ _ _ _ _ _ _ _ _ (met-paid _ _ _ _ _ _ _ _ _ _ _ _ _ _ (c .before .before .before .before .before .before .before .before .before .before .before .payload .ensures .0) (c .before .before .before .before .before .before .before .before .before .before .before .payload .ensures .1 .0) (rw (c .before .before .before .before .before .before .before .before .before .before .before .before .before .before .disk-at .ensures) at (c .before .before .before .before .before .before .before .before .before .before .before .payload .ensures .1 .1))) (rw g (c .before .before .save-payload .ensures)) _ (rw g)
+returns c = let g = c .before .before .before .before .before .p .given .1 in acted _ _ _ _ _ _ (held-payload _ _ _ _ _ (c .before .before .before .before .before .before .before .before .before .before .before .before .before .before .before .before .before .before .before .before .before .before .before .before .before .before .before .before .before .before .before .before .before .before .pre) _ _ (c .before .before .before .before .before .before .before .before .before .before .before .before .before .before .before .before .before .before .before .before .before .before .before .before .before .before .before .walk-at .ensures) (c .before .before .before .before .before .before .before .before .before .before .before .before .before .before .before .before .before .before .before .before .before .before .before .before .before .place-at .ensures)) (sym (c .before .before .before .before .before .before .before .before .before .before .before .before .before .before .before .before .before .before .before .before .payload-sane .ensures) ∙ c .before .before .before .before .before .before .before .before .before .before .before .before .before .before .before .before .before .before .before .if1 .taken) (ready-payload _ _ _ _ _ _ (sym (c .before .before .before .before .before .before .before .before .before .before .before .before .before .before .before .before .before .payload-ready .ensures) ∙ c .before .before .before .before .before .before .before .before .before .before .before .before .before .before .before .before .if2 .taken)) _ _ _ _ _ _ _ _ _ _ (met-paid _ _ _ _ _ _ _ _ _ _ _ _ _ _ _ (c .before .before .before .before .before .before .before .before .before .before .before .payload .ensures .0) (c .before .before .before .before .before .before .before .before .before .before .before .payload .ensures .1 .0) (rw (c .before .before .before .before .before .before .before .before .before .before .before .before .before .before .disk-at .ensures) at (c .before .before .before .before .before .before .before .before .before .before .before .payload .ensures .1 .1))) (rw g (c .before .before .save-payload .ensures)) _ (rw g)
 
 finish-requires : tie.Need-finish-requires
 finish-requires c κs = c .before .before .before .before .before .before .before .before .before .before .before .before .before .before .before .before .before .before .before .before .before .before .before .before .before .before .before .before .before .pre .words-long
@@ -75,7 +75,7 @@ same-length-6 : tie.Need-same-length-6
 same-length-6 c = search needs
 
 returns-2 : tie.Need-returns-2
-returns-2 c = acted _ _ _ _ _ _ (held-payload _ _ _ _ _ (c .before .before .before .before .before .before .before .before .before .before .before .before .before .before .before .before .before .before .before .before .before .before .before .before .before .before .before .before .before .before .before .before .pre) _ _ (c .before .before .before .before .before .before .before .before .before .before .before .before .before .before .before .before .before .before .before .before .before .before .before .before .before .walk-at .ensures) (c .before .before .before .before .before .before .before .before .before .before .before .before .before .before .before .before .before .before .before .before .before .before .before .place-at .ensures)) (sym (c .before .before .before .before .before .before .before .before .before .before .before .before .before .before .before .before .before .before .payload-sane .ensures) ∙ c .before .before .before .before .before .before .before .before .before .before .before .before .before .before .before .before .before .if1 .taken) (ready-payload _ _ _ _ _ _ (sym (c .before .before .before .before .before .before .before .before .before .before .before .before .before .before .before .payload-ready .ensures) ∙ c .before .before .before .before .before .before .before .before .before .before .before .before .before .before .if2 .taken)) _ _ _ _ _ _ _ _ _ (met-paid _ _ _ _ _ _ _ _ _ _ _ _ _ _ (c .before .before .before .before .before .before .before .before .before .payload .ensures .0) (c .before .before .before .before .before .before .before .before .before .payload .ensures .1 .0) (rw (c .before .before .before .before .before .before .before .before .before .before .before .before .disk-at .ensures) at (c .before .before .before .before .before .before .before .before .before .payload .ensures .1 .1))) (c .before .before .finish .ensures .1) _ (c .before .before .finish .ensures .0)
+returns-2 c = acted _ _ _ _ _ _ (held-payload _ _ _ _ _ (c .before .before .before .before .before .before .before .before .before .before .before .before .before .before .before .before .before .before .before .before .before .before .before .before .before .before .before .before .before .before .before .before .pre) _ _ (c .before .before .before .before .before .before .before .before .before .before .before .before .before .before .before .before .before .before .before .before .before .before .before .before .before .walk-at .ensures) (c .before .before .before .before .before .before .before .before .before .before .before .before .before .before .before .before .before .before .before .before .before .before .before .place-at .ensures)) (sym (c .before .before .before .before .before .before .before .before .before .before .before .before .before .before .before .before .before .before .payload-sane .ensures) ∙ c .before .before .before .before .before .before .before .before .before .before .before .before .before .before .before .before .before .if1 .taken) (ready-payload _ _ _ _ _ _ (sym (c .before .before .before .before .before .before .before .before .before .before .before .before .before .before .before .payload-ready .ensures) ∙ c .before .before .before .before .before .before .before .before .before .before .before .before .before .before .if2 .taken)) _ _ _ _ _ _ _ _ _ _ (met-paid _ _ _ _ _ _ _ _ _ _ _ _ _ _ _ (c .before .before .before .before .before .before .before .before .before .payload .ensures .0) (c .before .before .before .before .before .before .before .before .before .payload .ensures .1 .0) (rw (c .before .before .before .before .before .before .before .before .before .before .before .before .disk-at .ensures) at (c .before .before .before .before .before .before .before .before .before .payload .ensures .1 .1))) (c .before .before .finish .ensures .1) _ (c .before .before .finish .ensures .0)
 
 same-length-7 : tie.Need-same-length-7
 same-length-7 c = search needs

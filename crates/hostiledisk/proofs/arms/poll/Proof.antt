@@ -27,7 +27,7 @@ same-length c = search needs
 
 returns : tie.Need-returns
 unfolding sane ready
-returns c = acted _ _ _ _ _ _ (held-poll _ _ _ _ _ (c .before .before .before .before .before .before .before .before .before .before .before .before .before .pre)) refl refl _ _ _ _ _ _ _ _ _ (met-poll _ _ _ _ _ _ _ _ (rw (c .before .before .before .before .before .before .queue-at .ensures) at (c .before .before .before .before .poll .ensures))) (c .before .before .finish .ensures .1) _ (c .before .before .finish .ensures .0)
+returns c = acted _ _ _ _ _ _ (held-poll _ _ _ _ _ (c .before .before .before .before .before .before .before .before .before .before .before .before .before .pre)) refl refl _ _ _ _ _ _ _ _ _ _ (met-poll _ _ _ _ _ _ _ _ _ (rw (c .before .before .before .before .before .before .queue-at .ensures) at (c .before .before .before .before .poll .ensures))) (c .before .before .finish .ensures .1) _ (c .before .before .finish .ensures .0)
 
 pub poll-spec : {M : Type 1} → statement M
 poll-spec =

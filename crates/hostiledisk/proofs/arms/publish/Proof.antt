@@ -31,15 +31,18 @@ slice-read-taken c = search needs
 slice-read-answered : tie.Need-slice-read-answered
 slice-read-answered c = search needs
 
+slice-read-descs : tie.Need-slice-read-descs
+slice-read-descs c = search needs
+
 publish-requires : tie.Need-publish-requires
 unfolding ready
-publish-requires c κs = let f = fit-held _ _ _ _ (now (c .before .before .before .before .before .before .before .before .before .before .before .before .before .before .before .before .args .chain)) _ (held-publish _ _ _ _ _ (c .before .before .before .before .before .before .before .before .before .before .before .before .before .before .before .before .pre) _ (c .before .before .before .before .before .before .before .before .before .walk-at .ensures)) (sane-publish _ _ _ _ (sym (c .before .before .before .before .before .before .publish-sane .ensures) ∙ c .before .before .before .before .before .if1 .taken)) refl in rw (c .before .before .before .queue-at .ensures) (omega (arith, f))
+publish-requires c κs = let f = fit-held _ _ _ _ (now (c .before .before .before .before .before .before .before .before .before .before .before .before .before .before .before .before .before .args .chain)) _ (held-publish _ _ _ _ _ (c .before .before .before .before .before .before .before .before .before .before .before .before .before .before .before .before .before .pre) _ (c .before .before .before .before .before .before .before .before .before .before .walk-at .ensures)) (sane-publish _ _ _ _ (sym (c .before .before .before .before .before .before .before .publish-sane .ensures) ∙ c .before .before .before .before .before .before .if1 .taken)) refl in rw (c .before .before .before .before .queue-at .ensures) (omega (arith, f))
 
 one-more-requires : tie.Need-one-more-requires
-one-more-requires c κs = framed-queue _ (c .before .before .before .before .before .before .before .before .before .before .before .before .before .before .before .before .before .before .before .before .pre .frame) .taken-low
+one-more-requires c κs = framed-queue _ (c .before .before .before .before .before .before .before .before .before .before .before .before .before .before .before .before .before .before .before .before .before .pre .frame) .taken-low
 
 one-more-requires-2 : tie.Need-one-more-requires-2
-one-more-requires-2 c κs = framed-queue _ (c .before .before .before .before .before .before .before .before .before .before .before .before .before .before .before .before .before .before .before .before .before .pre .frame) .answered-low
+one-more-requires-2 c κs = framed-queue _ (c .before .before .before .before .before .before .before .before .before .before .before .before .before .before .before .before .before .before .before .before .before .before .pre .frame) .answered-low
 
 save-requires : tie.Need-save-requires
 save-requires c κs = search needs
@@ -52,7 +55,7 @@ same-length-2 c = search needs
 
 returns : tie.Need-returns
 unfolding ready
-returns c = acted _ _ _ _ _ _ (held-publish _ _ _ _ _ (c .before .before .before .before .before .before .before .before .before .before .before .before .before .before .before .before .before .before .before .before .before .before .before .before .before .pre) _ (c .before .before .before .before .before .before .before .before .before .before .before .before .before .before .before .before .before .before .walk-at .ensures)) (sane-publish _ _ _ _ (sym (c .before .before .before .before .before .before .before .before .before .before .before .before .before .before .before .publish-sane .ensures) ∙ c .before .before .before .before .before .before .before .before .before .before .before .before .before .before .if1 .taken)) refl _ _ _ _ _ _ _ _ _ (met-publish _ _ _ _ _ _ _ _ _ _ _ _ (c .before .before .before .before .one-more .ensures) (c .before .before .before .one-more2 .ensures) (rw (c .before .before .before .before .before .before .before .before .before .before .before .before .queue-at .ensures) at (c .before .before .before .before .before .before .before .before .publish .ensures))) (c .before .before .save .ensures) _ refl
+returns c = acted _ _ _ _ _ _ (held-publish _ _ _ _ _ (c .before .before .before .before .before .before .before .before .before .before .before .before .before .before .before .before .before .before .before .before .before .before .before .before .before .before .pre) _ (c .before .before .before .before .before .before .before .before .before .before .before .before .before .before .before .before .before .before .before .walk-at .ensures)) (sane-publish _ _ _ _ (sym (c .before .before .before .before .before .before .before .before .before .before .before .before .before .before .before .before .publish-sane .ensures) ∙ c .before .before .before .before .before .before .before .before .before .before .before .before .before .before .before .if1 .taken)) refl _ _ _ _ _ _ _ _ _ _ (met-publish _ _ _ _ _ _ _ _ _ _ _ _ _ (c .before .before .before .before .one-more .ensures) (c .before .before .before .one-more2 .ensures) (rw (c .before .before .before .before .before .before .before .before .before .before .before .before .before .queue-at .ensures) at (c .before .before .before .before .before .before .before .before .publish .ensures))) (c .before .before .save .ensures) _ refl
 
 same-length-3 : tie.Need-same-length-3
 same-length-3 c = search needs
@@ -71,6 +74,7 @@ publish-spec =
     queue-at-requires
     slice-read-taken
     slice-read-answered
+    slice-read-descs
     publish-requires
     one-more-requires
     one-more-requires-2

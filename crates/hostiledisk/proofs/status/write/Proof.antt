@@ -24,34 +24,37 @@ shared-slice-read-seen-of-2 c = search needs
 seen-of-requires : tie.Need-seen-of-requires
 seen-of-requires c κs = rw (c .before .before .phase-of .ensures, c .before .before .before .row-at .ensures) (level-three _ (sym (c .before .before .before .before .before .level .ensures) ∙ c .before .before .before .before .if1 .taken) .phase)
 
-shared-slice-read-show : tie.Need-shared-slice-read-show
-shared-slice-read-show c = search needs
+shared-slice-read-show-all : tie.Need-shared-slice-read-show-all
+shared-slice-read-show-all c = search needs
 
-shared-slice-read-show-2 : tie.Need-shared-slice-read-show-2
-shared-slice-read-show-2 c = search needs
+shared-slice-read-show-all-2 : tie.Need-shared-slice-read-show-all-2
+shared-slice-read-show-all-2 c = search needs
 
-show-requires : tie.Need-show-requires
-show-requires c κs = search needs
+shared-slice-read-show-all-3 : tie.Need-shared-slice-read-show-all-3
+shared-slice-read-show-all-3 c = search needs
+
+show-all-requires : tie.Need-show-all-requires
+show-all-requires c κs = search needs
 
 same-length : tie.Need-same-length
 same-length c = search needs
 
 returns : tie.Need-returns
 unfolding statusWords
-returns c = rw (← (c .before .before .before .before .before .before .before .before .before .before .before .before .level .ensures), eq-eqb _ 3 (c .before .before .before .before .before .before .before .before .before .before .before .if1 .taken), ← (c .before .before .before .before .before .before .before .before .before .before .row-at .ensures), ← (c .before .before .before .before .before .before .before .before .before .phase-of .ensures), ← (c .before .before .before .before .before .before .seen-of .ensures)) (c .before .before .show .ensures)
+returns c = rw (← (c .before .before .before .before .before .before .before .before .before .before .before .before .before .level .ensures), eq-eqb _ 3 (c .before .before .before .before .before .before .before .before .before .before .before .before .if1 .taken), ← (c .before .before .before .before .before .before .before .before .before .before .before .row-at .ensures), ← (c .before .before .before .before .before .before .before .before .before .before .phase-of .ensures), ← (c .before .before .before .before .before .before .before .seen-of .ensures)) (c .before .before .show-all .ensures)
 
 seen-requires : tie.Need-seen-requires
 seen-requires c κs = search needs
 
-show-requires-2 : tie.Need-show-requires-2
-show-requires-2 c κs = search needs
+show-all-requires-2 : tie.Need-show-all-requires-2
+show-all-requires-2 c κs = search needs
 
 same-length-2 : tie.Need-same-length-2
 same-length-2 c = search needs
 
 returns-2 : tie.Need-returns-2
 unfolding statusWords
-returns-2 c = rw (← (c .before .before .before .before .before .before .level .ensures), ne-eqb _ 3 (c .before .before .before .before .before .if1 .left), ← (c .before .before .before .seen .ensures)) (c .before .before .show2 .ensures)
+returns-2 c = rw (← (c .before .before .before .before .before .before .level .ensures), ne-eqb _ 3 (c .before .before .before .before .before .if1 .left)) (rw (c .before .before .before .seen .ensures) at (c .before .before .show-all2 .ensures))
 
 pub write-spec : {M : Type 1} → statement M
 write-spec =
@@ -63,12 +66,13 @@ write-spec =
     shared-slice-read-seen-of
     shared-slice-read-seen-of-2
     seen-of-requires
-    shared-slice-read-show
-    shared-slice-read-show-2
-    show-requires
+    shared-slice-read-show-all
+    shared-slice-read-show-all-2
+    shared-slice-read-show-all-3
+    show-all-requires
     same-length
     returns
     seen-requires
-    show-requires-2
+    show-all-requires-2
     same-length-2
     returns-2)
