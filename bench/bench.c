@@ -1,13 +1,14 @@
 // The benchmark: the three devices over the same guest memory and the same disk, in turns. Prints a line for each row:
 // its name, and for each device the median of nanoseconds for a request (or a step). bench/report makes the table.
 //     bench requests ROUNDS LARGEST_SET     (bytes)
+//     bench linear ROUNDS
 //     bench steps ROUNDS
 //     bench memory
 #define _DEFAULT_SOURCE
 #include "guest.h"
 #include "steps.h"
 
-enum { QUEUE = 256, DATA_AT = HUGE_PAGE, SAMPLE = 300000 };  // SAMPLE: nanoseconds that one sample takes, about
+enum { QUEUE = 256, LONG_QUEUE = 1024, DATA_AT = HUGE_PAGE, SAMPLE = 300000 };  // SAMPLE: nanoseconds that one sample takes, about
 
 static const struct shape shapes[] = {
     {"512 B, 3 descriptors", 1, 512},
@@ -16,6 +17,7 @@ static const struct shape shapes[] = {
     {"3.5 KiB, 130 descriptors", 128, 28},  // the one whose copies have a tail
     {"63 KiB, 128 descriptors", 126, 512},
     {"504 KiB, 128 descriptors", 126, 4096},
+    {"511 KiB, 1,024 descriptors", 1022, 512},
 };
 static const size_t sets[] = {1 << 20, 64 << 20, 1 << 30};
 static const char *const set_names[] = {"1 MiB", "64 MiB", "1 GiB"};
@@ -67,21 +69,49 @@ static void row(struct queue *queues, struct load l, size_t rounds, double *samp
     printf("\n"), fflush(stdout);
 }
 
+// What all rows of a table share: a queue of each device, and room for what is laid and measured.
+struct table { struct memory m; struct queue queues[DEVICES]; struct laid laid; double *samples; };
+
+static void begin(struct table *t, size_t rounds, size_t largest)
+{
+    *t = (struct table){.m = {room(DATA_AT + largest), room(largest), DATA_AT + largest, largest}};
+    t->laid.buffers = calloc(LONG_QUEUE, sizeof *t->laid.buffers), t->samples = calloc(DEVICES * rounds, sizeof *t->samples);
+    if (!t->laid.buffers || !t->samples) fail("no memory");
+    for (unsigned d = 0; d < DEVICES; d++) lend(t->queues + d, devices + d, &t->m, LONG_QUEUE, d);
+}
+
+static void set_up_all(struct table *t, unsigned size, size_t regions)
+{
+    for (unsigned d = 0; d < DEVICES; d++) t->queues[d].size = size, set_up(t->queues + d, (unsigned)regions);
+}
+
 static void requests(size_t rounds, size_t largest)
 {
-    struct memory m = {room(DATA_AT + largest), room(largest), DATA_AT + largest, largest};
-    struct queue queues[DEVICES];
-    struct laid laid = {0, {0}, calloc(QUEUE, sizeof *laid.buffers)};
-    double *samples = calloc(DEVICES * rounds, sizeof *samples);
-    if (!laid.buffers || !samples) fail("no memory");
-    for (unsigned d = 0; d < DEVICES; d++) lend(queues + d, devices + d, &m, QUEUE, d);
+    static struct table t;
+    begin(&t, rounds, largest);
     for (size_t i = 0; i < 2 * 2 * sizeof shapes / sizeof *shapes * 3; i++) {
         const size_t set = i % 3, regions = i / 3 % 2 ? REGIONS : 1, type = i / 6 % 2;
         const struct shape *s = shapes + i / 12;
         if (sets[set] > largest || (set > 0 && s->buffer < 64)) continue;  // tiny buffers in RAM are a cache miss each, and no more
-        for (unsigned d = 0; d < DEVICES; d++) set_up(queues + d, (unsigned)regions);
+        set_up_all(&t, s->buffers + 2 > QUEUE ? LONG_QUEUE : QUEUE, regions);
         printf("%s\t%s\t%s\t%zu", type == OUT ? "write" : "read", s->name, set_names[set], regions);
-        row(queues, load_of(s, (int)type, sets[set], DATA_AT), rounds, samples, &laid);
+        row(t.queues, load_of(s, (int)type, sets[set], DATA_AT), rounds, t.samples, &t.laid);
+    }
+}
+
+// Is the time of a request linear in its descriptors and in the regions? Small buffers, so that most of it isn't copying.
+static void linear(size_t rounds)
+{
+    static const unsigned descriptors[] = {16, 128, 1024}, regions[] = {1, 8, REGIONS};
+    static struct table t;
+    begin(&t, rounds, sets[0]);
+    for (size_t i = 0; i < 2 * 3 * 3; i++) {
+        const unsigned n = descriptors[i / 3 % 3], of = regions[i % 3];
+        const int type = i / 9 ? OUT : IN;
+        const struct shape s = {"", n - 2, 256};
+        set_up_all(&t, LONG_QUEUE, of);
+        printf("%s\t%u\t%u", type == OUT ? "write" : "read", n, of);
+        row(t.queues, load_of(&s, type, sets[0], DATA_AT), rounds, t.samples, &t.laid);
     }
 }
 
@@ -89,13 +119,14 @@ static void memory_held(void)
 {
     for (int d = 0; d < DEVICES; d++)
         printf("%s\t%llu\t%llu\t%llu\n", devices[d].name, 8 * (unsigned long long)devices[d].state_words(),
-               8 * (unsigned long long)devices[d].chain_words(QUEUE), (unsigned long long)devices[d].stage_bytes());
+               8 * (unsigned long long)devices[d].chain_words(LONG_QUEUE), (unsigned long long)devices[d].stage_bytes());
 }
 
 int main(int argc, char **argv)
 {
     if (argc == 4 && !strcmp(argv[1], "requests")) requests(strtoul(argv[2], NULL, 10), strtoul(argv[3], NULL, 10));
+    else if (argc == 3 && !strcmp(argv[1], "linear")) linear(strtoul(argv[2], NULL, 10));
     else if (argc == 3 && !strcmp(argv[1], "steps")) steps(strtoul(argv[2], NULL, 10));
     else if (argc == 2 && !strcmp(argv[1], "memory")) memory_held();
-    else fail("bench requests ROUNDS LARGEST_SET, bench steps ROUNDS, or bench memory");
+    else fail("bench requests ROUNDS LARGEST_SET, bench linear ROUNDS, bench steps ROUNDS, or bench memory");
 }

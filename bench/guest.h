@@ -67,6 +67,7 @@ static inline void lay_one(struct queue *q, struct load *l, struct laid *to, uns
 static inline void lay(struct queue *q, struct load *l, struct laid *to)
 {
     to->n = at_once(q, l->shape);
+    if (to->n > MOST_AT_ONCE) fail("more requests at once than there is room for");
     for (unsigned k = 0; k < to->n; k++) {
         lay_one(q, l, to, k);
         put16(q->areas + AVAIL + 4 + 2 * (q->idx++ % q->size), k * (l->shape->buffers + 2));

@@ -10,9 +10,9 @@
 #include "devices.h"
 
 #define GUEST 0x100000000ull                  // the guest address of the slice's first byte
-enum { HUGE_PAGE = 1 << 21, REGIONS = 8 };
+enum { HUGE_PAGE = 1 << 21, REGIONS = 32 };
 // Places of a queue's areas, and from one queue's areas to the next one's: so that they don't fall on the same lines of a cache.
-enum { DESC = 0, AVAIL = 0x2040, USED = 0x4080, HEADERS = 0x60c0, STATUSES = 0x8100, AREAS = 0x9000, STRIDE = 0x10100 };
+enum { DESC = 0, AVAIL = 0x4040, USED = 0x5080, HEADERS = 0x80c0, STATUSES = 0xa100, AREAS = 0xb000, STRIDE = 0x10100 };
 
 static inline void fail(const char *what)
 {
@@ -52,7 +52,7 @@ struct queue {
     uint16_t idx;  // what the driver has published
 };
 
-// One region, or eight of which the last one has everything: a device that looks for the right one comes to it last.
+// One region, or several of which the last one has everything: a device that looks for the right one comes to it last.
 static inline size_t map_of(unsigned regions, size_t mem_len, uint64_t *map)
 {
     for (unsigned i = 0; i + 1 < regions; i++) {

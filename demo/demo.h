@@ -18,11 +18,11 @@
 enum { GAP = 4096, LOW_BYTES = 0x280000, HIGH_BYTES = 0x80000 };
 enum { HIGH_AT = GAP + LOW_BYTES + GAP, MEMORY = HIGH_AT + HIGH_BYTES + GAP };
 #define DESC (LOW + 0x1000)
-#define AVAIL (LOW + 0x2000)
-#define USED (LOW + 0x3000)
-#define HEADER (LOW + 0x4000)
-#define DATA (LOW + 0x5000)
-#define STATUS (LOW + 0x4800)
+#define AVAIL (LOW + 0x5000)
+#define USED (LOW + 0x6000)
+#define HEADER (LOW + 0x9000)
+#define DATA (LOW + 0xa000)
+#define STATUS (LOW + 0x9800)
 #define D(i) (DESC + 16 * (i))  // a descriptor: addr at 0, len at 8, flags at 12, next at 14
 
 // The image file: a page of the host's own, our disk, the neighbour's disk.

@@ -73,6 +73,8 @@ static const struct { const char *name; uint64_t sector; uint32_t bytes, header_
     {"64 KiB in crumbs", 300, 65536, 3, 200, 253},
     {"1 MiB at once", 1024, HD_REQUEST_BYTES_MAX, 16, 1, 1},
     {"1 MiB in 254 buffers", 2048, HD_REQUEST_BYTES_MAX, 16, 254, 254},
+    {"1 MiB in 1,022 buffers", 512, HD_REQUEST_BYTES_MAX, 16, 1022, 1022},
+    {"two sectors in crumbs", 700, 1024, 1, 1020, 1020},
 };
 
 static void write_and_read_back(size_t i)
@@ -83,7 +85,7 @@ static void write_and_read_back(size_t i)
     noise(written, rounds[i].bytes, 100 + i);
     struct request out = write_of(rounds[i].sector, rounds[i].bytes, rounds[i].out, rounds[i].header_cut);
     struct request in = read_of(rounds[i].sector, rounds[i].bytes, rounds[i].in);
-    out.head = (unsigned)(7 * i) % 256, in.head = (unsigned)(11 * i) % 256;
+    out.head = (unsigned)(97 * i) % HD_QUEUE_SIZE_MAX, in.head = (unsigned)(211 * i) % HD_QUEUE_SIZE_MAX;
     lay(&out);
     const char *problem = serve(&out, wrote, NULL, &got);
     snprintf(answer, sizeof answer, "%s", said(got));
@@ -115,9 +117,9 @@ static void around_the_counters(void)  // a host that was restarted takes the qu
     struct request flush = write_of(0, 0, 0, 16);
     const char *problem = NULL;
     flush.type = FLUSH;
-    take_over(256, TAKEN_OVER_AT);
+    take_over(HD_QUEUE_SIZE_MAX, TAKEN_OVER_AT);
     for (unsigned i = 0; i < WRAP && !problem && same_outcome(want, got); i++) {
-        flush.head = i % 256;
+        flush.head = i % HD_QUEUE_SIZE_MAX;
         lay(&flush);
         problem = run_steps(&flush, want, NULL, &got);
     }
@@ -127,8 +129,8 @@ static void around_the_counters(void)  // a host that was restarted takes the qu
 
 void honest_guest(void)
 {
-    title("An honest guest (a queue of 256)");
-    begin(256, false);
+    title("An honest guest (a queue of 1,024)");
+    begin(HD_QUEUE_SIZE_MAX, false);
     for (size_t i = 0; i < COUNT(rounds); i++) write_and_read_back(i);
     struct request r = fresh(GET_ID, 0);
     add(&r, HEADER, 16, false), add(&r, DATA, 21, true);

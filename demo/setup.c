@@ -2,8 +2,9 @@
 #include <stdio.h>
 #include "demo.h"
 
-static const struct { const char *name, *deed; uint64_t want; size_t words; uint64_t list[6]; } maps[] = {
+static const struct { const char *name, *deed; uint64_t want; size_t words; uint64_t list[99]; } maps[] = {
     {"no region", "memory without a region", HD_REFUSED_REGION_COUNT, 0, {0}},
+    {"33 regions", "over 32", HD_REFUSED_REGION_COUNT, 99, {0}},
     {"half a region", "four words", HD_REFUSED_REGION_COUNT, 4, {LOW, 4096, 0, HIGH}},
     {"empty region", "length 0", HD_REFUSED_REGION_EMPTY, 3, {LOW, 0, 0}},
     {"region leaves the slice", "by one byte", HD_REFUSED_REGION_SLICE, 3, {LOW, 4096, MEMORY - 4095}},
@@ -21,13 +22,14 @@ static const struct { const char *name, *deed; uint64_t want, start, sectors; si
 };
 static const struct { const char *name, *deed; uint64_t want, size, desc, avail, used, start; } queues[] = {
     {"queue of 3", "not a power of two", HD_REFUSED_QUEUE_SIZE, 3, DESC, AVAIL, USED, 0},
-    {"queue of 512", "over 256", HD_REFUSED_QUEUE_SIZE, 512, DESC, AVAIL, USED, 0},
+    {"queue of 2,048", "over 1,024", HD_REFUSED_QUEUE_SIZE, 2048, DESC, AVAIL, USED, 0},
     {"queue of 2^63", "whose area's length wraps", HD_REFUSED_QUEUE_SIZE, UINT64_C(1) << 63, DESC, AVAIL, USED, 0},
     {"misaligned", "descriptors at a multiple of 8", HD_REFUSED_AREA_ALIGNMENT, 8, DESC + 8, AVAIL, USED, 0},
     {"ring past memory", "the used ring ends behind its region", HD_REFUSED_AREA_MEMORY, 8, DESC, AVAIL, LOW + LOW_BYTES - 68, 0},
     {"ring address wraps", "descriptors at 2^64 - 16", HD_REFUSED_AREA_MEMORY, 8, TOP - 15, AVAIL, USED, 0},
     {"rings overlap", "used idx in the available ring", HD_REFUSED_AREA_OVERLAP, 8, DESC, AVAIL, AVAIL + 20, 0},
     {"ring over descriptors", "used ring in the descriptors", HD_REFUSED_AREA_OVERLAP, 8, DESC, AVAIL, DESC + 124, 0},
+    {"chain memory too short", "16 words of it for a queue of 1,024", HD_REFUSED_CHAIN_SHORT, HD_QUEUE_SIZE_MAX, DESC, AVAIL, USED, 0},
     {"counter out of range", "a start of 65,536", HD_REFUSED_START, 8, DESC, AVAIL, USED, 65536},
 };
 

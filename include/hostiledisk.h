@@ -45,8 +45,8 @@ enum {
     HD_SECTOR_BYTES = 512,        // a sector
     HD_ID_BYTES = 20,             // a disk's identity: text filled up with zeros
     HD_REGION_WORDS = 3,          // a region: guest address, length, offset in the slice
-    HD_REGIONS_MAX = 8,           // regions of guest memory, at least 1
-    HD_QUEUE_SIZE_MAX = 256,      // queue size: a power of two from 1 up to this
+    HD_REGIONS_MAX = 32,          // regions of guest memory, at least 1
+    HD_QUEUE_SIZE_MAX = 1024,     // queue size: a power of two from 1 up to this
     HD_STAGE_BYTES = 1048576,     // what hd_stage_bytes answers
     HD_REQUEST_BYTES_MAX = 1048576,  // data bytes of the largest read or write; a larger one gets status 1 (I/O error)
     HD_COUNTER_END = 65536,       // counters and indices count modulo this
@@ -60,14 +60,14 @@ enum hd_answer {
     HD_OK = 0,                        // done
 
     // hd_memory
-    HD_REFUSED_REGION_COUNT = 20,     // not 1 to 8 regions, or a number of words that is no multiple of 3
+    HD_REFUSED_REGION_COUNT = 20,     // not 1 to 32 regions, or a number of words that is no multiple of 3
     HD_REFUSED_REGION_EMPTY = 21,     // a region of length 0
     HD_REFUSED_REGION_SLICE = 22,     // a region leaves the slice: offset + length is over mem_len
     HD_REFUSED_REGION_ADDRESS = 23,   // a region's guest address + length is over 2^64 - 1
     HD_REFUSED_REGION_OVERLAP = 24,   // a region's guest addresses overlap an earlier one's (slice bytes may be shared)
 
     // hd_enable, hd_enable_at
-    HD_REFUSED_QUEUE_SIZE = 25,       // not a power of two from 1 to 256
+    HD_REFUSED_QUEUE_SIZE = 25,       // not a power of two from 1 to 1,024
     HD_REFUSED_AREA_ALIGNMENT = 26,   // descriptors not at a multiple of 16, available ring of 2, or used ring of 4
     HD_REFUSED_AREA_MEMORY = 27,      // an area isn't wholly inside one region
     HD_REFUSED_AREA_OVERLAP = 28,     // the used ring overlaps the available ring or the descriptors
@@ -150,13 +150,13 @@ enum hd_next_step {
 
 // ---- How much memory to lend for one device
 
-uint64_t hd_state_words(void);                 // words of state the host lends for a device
+uint64_t hd_state_words(void);                 // words of state the host lends for a device, whatever its queue's size
 uint64_t hd_chain_words(uint64_t queue_size);  // words of chain memory for that size; 0 for a size that enabling refuses
 uint64_t hd_stage_bytes(void);                 // bytes of staging memory: 1,048,576
 
 // ---- Set-up
 
-// Registers guest memory: 1 to 8 regions of a slice of mem_len bytes, which hd_step gets. Works on any state, an enabled
+// Registers guest memory: 1 to 32 regions of a slice of mem_len bytes, which hd_step gets. Works on any state, an enabled
 // one too, and forgets all that was set up before; a request at hand is dropped without an answer. A range of guest
 // bytes is in memory if one region contains all of it: merge adjoining regions before registering them.
 // Answers, tested in this order: 40 · 20 · then region by region 21, 22, 23, 24 · 0.

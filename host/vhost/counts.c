@@ -7,7 +7,7 @@
 // The interface doesn't tell a request's type or status. Both stand in private memory that the host lends, where no
 // guest can reach them: the header is gathered in the first 16 bytes of staging memory (docs/DECISIONS.md, D7), and
 // before S6 the state holds the numbers of readable and writable bytes and the verdict (D8, crates/words/specs/Layout.antt).
-enum { STATE_WORDS = 53, READABLE = 46, WRITABLE = 47, VERDICT = 48, HEADER_BYTES = 16 };
+enum { STATE_WORDS = 125, READABLE = 22, WRITABLE = 23, VERDICT = 24, HEADER_BYTES = 16 };
 enum { DONE, FAILED, UNSUPPORTED, READ };
 _Static_assert((int)STATUS_WORDS == HD_STATUS_WORDS && (int)BROKEN_AT == HD_STATUS_BROKEN_AT, "counts.h names the words of hd_status");
 

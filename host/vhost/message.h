@@ -14,7 +14,7 @@ enum {
 enum { VERSION = 1, IS_REPLY = 4, NEED_REPLY = 8 };        // header flags
 enum { NO_FD = 0x100 };                                    // in SET_VRING_KICK, _CALL and _ERR
 enum { PROTOCOL_MQ = 1, PROTOCOL_REPLY_ACK = 8, PROTOCOL_CONFIG = 512 };
-enum { REGIONS_MAX = 8, CONFIG_MAX = 256, CONFIG_HEADER = 12 };
+enum { REGIONS_MAX = 8, CONFIG_MAX = 256, CONFIG_HEADER = 12 };  // 8 is the protocol's own limit; the device takes 32
 
 // features: of the block device (03), of the ring, of the protocol
 #define F_SIZE_MAX (1ull << 1)

@@ -16,7 +16,7 @@ static const char help[] =
     "  --sectors N      its capacity in sectors of 512 bytes (up to the end of the image)\n"
     "  --read-only      every write is refused\n"
     "  --id TEXT        its serial number, at most 20 bytes (none)\n"
-    "  --queue-size Q   the longest queue that a monitor may ask for: a power of two from 4 to 256 (128)\n"
+    "  --queue-size Q   the longest queue that a monitor may ask for: a power of two from 4 to 1024 (128)\n"
     "  --steps N        for all disks: steps of one disk before the others have their turn (256)\n"
     "  --help           this text\n"
     "SIGTERM and SIGINT end it after all writes have reached the image. At its end and on SIGUSR1 it prints a line of\n"

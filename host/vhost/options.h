@@ -6,7 +6,7 @@
 #include <stddef.h>
 #include <stdint.h>
 
-enum { DISKS_MAX = 64, ID_BYTES = 20, QUEUE_LEAST = 4, QUEUE_MOST = 256 };
+enum { DISKS_MAX = 64, ID_BYTES = 20, QUEUE_LEAST = 4, QUEUE_MOST = 1024 };
 
 struct disk_options {
     const char *socket, *image;

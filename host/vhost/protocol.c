@@ -36,12 +36,14 @@ static void put(uint8_t *to, uint64_t n, unsigned bytes)
 
 // struct virtio_blk_config: capacity at 0, size_max at 8, seg_max at 12; the rest belongs to features that aren't offered.
 // A driver that stays within them sends at most size_max * seg_max <= 1 MiB, in a chain that fits the queue with its
-// header and status. size_max is a multiple of the page: Linux takes no smaller one.
+// header and status. size_max is a multiple of the page: Linux takes no smaller one. So seg_max is never more than the
+// pages of 1 MiB, however long the queue is: with 510 segments size_max would be 0.
 static bool get_config(struct disk *d, const struct message *m, const char **why)
 {
     uint8_t config[CONFIG_MAX] = {0};
     union payload p = m->payload;
-    const uint32_t seg_max = (uint32_t)d->options->queue_size - 2, size_max = REQUEST_MOST / seg_max / PAGE_OF_DRIVERS * PAGE_OF_DRIVERS;
+    const uint32_t fit = (uint32_t)d->options->queue_size - 2, pages = REQUEST_MOST / PAGE_OF_DRIVERS, seg_max = fit < pages ? fit : pages;
+    const uint32_t size_max = REQUEST_MOST / seg_max / PAGE_OF_DRIVERS * PAGE_OF_DRIVERS;
     put(config, d->image.sectors, 8), put(config + 8, size_max, 4), put(config + 12, seg_max, 4);
     memcpy(p.config.bytes, config + p.config.offset, p.config.size);
     return reply(d, &p, CONFIG_HEADER + p.config.size, why);

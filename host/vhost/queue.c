@@ -9,6 +9,7 @@
 
 enum { NOTHING, WENT_ON, WAS_ANSWERED, WAS_BROKEN };  // what hd_step answers; 4 is a refusal
 enum { BREAKS_SAID = 16 };  // a guest can break its queue as often as it likes, and must not fill the log
+_Static_assert((int)QUEUE_MOST == HD_QUEUE_SIZE_MAX, "--queue-size goes as far as the device does");
 
 bool disk_lend(struct disk *d)
 {
@@ -35,7 +36,7 @@ static const char *refusal(uint64_t code)
 {
     switch (code) {
     case 24: return "regions overlap (24)";
-    case 25: return "a queue size that isn't a power of two up to 256 (25)";
+    case 25: return "a queue size that isn't a power of two up to 1,024 (25)";
     case 26: return "a ring that isn't aligned (26)";
     case 27: return "a ring that isn't in memory (27)";
     case 28: return "rings that overlap (28)";

@@ -9,7 +9,7 @@
 
 _Static_assert(__BYTE_ORDER__ == __ORDER_LITTLE_ENDIAN__, "all fields are lowest byte first (01), and are loaded as they are");
 
-enum { REGIONS = 8, SECTOR = 512, HEADER = 16, IDENTITY = 20, MOST = 1048576, LONGEST_QUEUE = 256, NOWHERE = 65536 };
+enum { REGIONS = 32, SECTOR = 512, HEADER = 16, IDENTITY = 20, MOST = 1048576, LONGEST_QUEUE = 1024, NOWHERE = 65536 };
 enum { NEXT = 1, WRITE = 2 };                                              // flags of a descriptor (01 §2)
 enum { IN = 0, OUT = 1, FLUSH = 4, GET_ID = 8 };                           // types of a request (03 §3)
 enum { OK = 0, IOERR = 1, UNSUPP = 2 };                                    // its status
@@ -23,7 +23,6 @@ struct buffer { uint64_t offset, len; };  // the private chain: where a buffer l
 struct device {
     uint64_t level;
     uint64_t mem_len, regions;
-    struct region region[REGIONS];
     uint64_t start, sectors, read_only, backing_len;
     uint8_t id[24];
     uint64_t size, desc, avail, used, chain_len, stage_len;  // areas as offsets in the slice
@@ -35,8 +34,10 @@ struct device {
     uint64_t sector;      // S5, S6
     uint64_t fetched;     // header and payload
     uint64_t last_chain;  // descriptors of the last chain that was complete
+    struct region region[REGIONS];  // at the end, so that no other word's place hangs on how many there may be
 };
 enum { WORDS = sizeof(struct device) / 8 };
+_Static_assert(WORDS == 125, "the tests know the words' places");
 
 // ---- loads and stores of guest memory: each is one access of that size, which the compiler may not repeat or split.
 // An area's guest address is aligned, its place in the slice need not be.
@@ -86,10 +87,12 @@ static int contains(const struct region *g, uint64_t a, uint64_t n)
     return a >= g->guest && within(a - g->guest, n, g->len);
 }
 
+static uint64_t eight_if(int wrong, uint64_t n) { return wrong && n > 8 ? 8 : n; }
+
 // Is the range of n bytes from address a in memory? Then *offset is its place in the slice.
 static int locate(const struct device *d, uint64_t a, uint64_t n, uint64_t *offset)
 {
-    for (uint64_t i = 0; i < d->regions; i++) {
+    for (uint64_t i = 0; i < eight_if(WRONG == EIGHT_LOOKED_AT, d->regions); i++) {
         const struct region *g = d->region + i;
         uint64_t last;
         if (WRONG == ENDS_TESTED_ONLY && n > 1 && contains(g, a, 1)) n = locate(d, a + n - 1, 1, &last);
@@ -119,12 +122,17 @@ static int fits(uint64_t n, uint64_t sector, uint64_t sectors)
 
 // ---- what set-up and steps make of a state
 
-static int size_ok(uint64_t q) { return q >= 1 && q <= LONGEST_QUEUE && (q & (q - 1)) == 0; }
+static uint64_t longest_queue(void) { return WRONG == QUEUES_OF_256 ? 256 : WRONG == QUEUES_OF_2048 ? 2048 : LONGEST_QUEUE; }
+static uint64_t most_regions(void) { return WRONG == NINE_REGIONS_REFUSED ? 8 : REGIONS + (WRONG == REGIONS_OF_33); }
+static int size_ok(uint64_t q) { return q >= 1 && q <= longest_queue() && (q & (q - 1)) == 0; }
+
+// Words of chain memory for a queue of that size.
+static uint64_t chain_for(uint64_t q) { return WRONG == CHAIN_OF_512_WORDS && q > 256 ? 512 : 2 * q - (WRONG == CHAIN_ONE_SHORT); }
 
 static int memory_ok(const struct device *d)
 {
-    if (d->regions < 1 || d->regions > REGIONS) return 0;
-    for (uint64_t i = 0; i < d->regions; i++)
+    if (d->regions < 1 || d->regions > most_regions()) return 0;
+    for (uint64_t i = 0; i < eight_if(WRONG == EIGHT_TESTED, d->regions); i++)
         if (region_code(d->region + i, d->mem_len)) return 0;
     return 1;
 }
@@ -133,7 +141,7 @@ static int queue_ok(const struct device *d)
 {
     const uint64_t q = d->size;
     return size_ok(q) && within(d->desc, 16 * q, d->mem_len) && within(d->avail, 6 + 2 * q, d->mem_len)
-        && within(d->used, 6 + 8 * q, d->mem_len) && d->chain_len >= 2 * q && d->stage_len >= MOST
+        && within(d->used, 6 + 8 * q, d->mem_len) && d->chain_len >= chain_for(q) && d->stage_len >= MOST
         && d->taken < 65536 && d->answered < 65536
         && (WRONG == BREAK_NOT_TESTED || d->last_chain <= q + (WRONG == Q_PLUS_ONE));
 }
@@ -260,6 +268,7 @@ static uint64_t descriptor(struct device *d, const uint8_t *mem, struct buffer *
     const uint64_t next = rest >> 48, number = d->count++, at = WRONG == BROKEN_AT_CHAIN_POSITION ? number : d->next;
     uint64_t len = (uint32_t)rest, flags = (uint16_t)(rest >> 32), offset;
     if (number >= d->size + (WRONG == Q_PLUS_ONE)) return broken_at(d, 3, at);
+    if (WRONG == CHAINS_OF_256 && number >= 256) return broken_at(d, 3, at);
     if (flags & ~(uint64_t)(NEXT | WRITE)) return broken_at(d, 4, at);
     if (len == 0) return broken_at(d, 5, at);
     if (!locate(d, addr, len, &offset)) return broken_at(d, 6, at);
@@ -267,13 +276,13 @@ static uint64_t descriptor(struct device *d, const uint8_t *mem, struct buffer *
     if (flags & NEXT && next >= d->size) return broken_at(d, 2, WRONG == BROKEN_AT_HEAD ? d->head : at);
     if (WRONG == LENGTH_FETCHED_TWICE) len = load32(from + 8);
     if (WRONG == FLAGS_FETCHED_TWICE) flags = load16(from + 12);
-    chain[number] = (struct buffer){offset, len};
+    chain[WRONG == NUMBER_IN_8_BITS ? (uint8_t)number : number] = (struct buffer){offset, len};
     if (flags & WRITE) d->w += len;
     else d->reads++, d->r += len;
     if (WRONG == LENGTHS_IN_32_BITS) d->w = (uint32_t)d->w, d->r = (uint32_t)d->r;
     if (!(flags & NEXT)) return chain_complete(d, at);
     if (WRONG == CHAIN_COUNTED_EARLY) d->last_chain = d->count;
-    d->next = next;
+    d->next = WRONG == NEXT_IN_8_BITS ? (uint8_t)next : next;
     return WENT_ON;
 }
 
@@ -399,8 +408,8 @@ uint64_t hd_memory(uint64_t *state, size_t state_len, const uint64_t *regions, s
     const struct region *g = (const struct region *)regions;
     const size_t n = regions_len / 3;
     if (state_len < WORDS) return 40;
-    if (regions_len % 3 || n < 1 || n > REGIONS) return 20;
-    for (size_t i = 0; i < n; i++) {
+    if (regions_len % 3 || n < 1 || n > most_regions()) return 20;
+    for (size_t i = 0; i < eight_if(WRONG == EIGHT_JUDGED, n); i++) {
         const uint64_t code = region_code(g + i, mem_len);
         if (code) return code;
         for (size_t k = 0; k < i; k++)
@@ -437,7 +446,7 @@ uint64_t hd_enable_at(uint64_t *state, size_t state_len, uint64_t size, uint64_t
     if (desc % 16 || avail % 2 || used % 4) return 26;
     if (!locate(d, desc, n_desc, &desc_at) || !locate(d, avail, n_avail, &avail_at) || !locate(d, used, n_used, &used_at)) return 27;
     if (overlap(used, n_used, avail, n_avail) || overlap(used, n_used, desc, n_desc)) return 28;
-    if (chain_len < 2 * size) return 42;
+    if (chain_len < chain_for(size)) return 42;
     if (stage_len < MOST) return 43;
     if (start > UINT16_MAX) return 46;
     d->size = size, d->desc = desc_at, d->avail = avail_at, d->used = used_at;

@@ -30,6 +30,20 @@ enum {
     ENDS_TESTED_ONLY,          // reference: first and last byte are in memory, but in two regions (01 §1)
     LENGTHS_IN_32_BITS,        // reference: r and w are summed in 32 bits: 4 GiB and 528 bytes pass for 528
 
+    // 01 §1, §2: queues of 1 to 1,024, and 1 to 32 regions
+    QUEUES_OF_256,             // smoke: a queue of 512 is refused
+    QUEUES_OF_2048,            // smoke: a queue of 2,048 is taken (25)
+    CHAINS_OF_256,             // smoke: a chain of more than 256 descriptors is refused on any queue
+    NUMBER_IN_8_BITS,          // smoke: the place of a buffer in chain memory is kept in a byte: the 257th replaces the first
+    NEXT_IN_8_BITS,            // smoke: a descriptor's next is kept in a byte
+    CHAIN_ONE_SHORT,           // smoke: 2 q - 1 words of chain memory are taken (42)
+    CHAIN_OF_512_WORDS,        // smoke: 512 words of chain memory are enough for every queue (42)
+    NINE_REGIONS_REFUSED,      // smoke: more than 8 regions are refused
+    REGIONS_OF_33,             // smoke: 33 regions are taken (20), one more than the state holds
+    EIGHT_JUDGED,              // smoke: set-up tests the first eight regions only (21 to 24)
+    EIGHT_LOOKED_AT,           // smoke: an address is looked for in the first eight regions only
+    EIGHT_TESTED,              // smoke: hd_step tests the first eight regions of a spoilt state only
+
     // 03 §2, §3, §4: requests
     SUM_WRAPS_ON_DISK,         // smoke: sector + n / 512 <= c with a sum that wraps (03 §8)
     ONE_SECTOR_TOO_FAR,        // smoke: the sector behind the last is the neighbour's

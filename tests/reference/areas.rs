@@ -2,6 +2,9 @@
 
 use crate::regions::{overlap, Memory};
 
+/// The longest queue.
+pub const LONGEST: u64 = 1024;
+
 #[derive(Clone, Copy)]
 pub struct Areas {
     pub size: u64,
@@ -19,7 +22,7 @@ impl Areas {
 
     /// The answer with which enabling refuses these areas, tested in the order 25 to 28.
     pub fn refused(&self, memory: &Memory) -> Option<u64> {
-        if !(1..=256).contains(&self.size) || !self.size.is_power_of_two() {
+        if !(1..=LONGEST).contains(&self.size) || !self.size.is_power_of_two() {
             return Some(25);
         }
         let [desc, avail, used] = self.all();

@@ -1,5 +1,6 @@
 //! One case: a device set up from its seed through the calls themselves, and what every kind of case does with it.
 
+use crate::areas::LONGEST;
 use crate::compare::Pair;
 use crate::driver::Driver;
 use crate::events::short_slice;
@@ -8,7 +9,7 @@ use crate::layout::{layout, Layout};
 use crate::library::{chain_words, state_words, Slices};
 use crate::random::Random;
 use crate::reference::{DiskWords, Enabling};
-use crate::regions::Memory;
+use crate::regions::{Memory, REGIONS};
 use crate::request::MOST;
 use crate::seen::Seen;
 
@@ -21,18 +22,23 @@ pub struct Scale {
 
 impl Scale {
     pub fn small(random: &mut Random) -> Scale {
-        let size = 1 << random.below(9);
+        let size = 1 << random.below(11);
         Scale { size, room: random.pick(&[700, 1600, 4000, 9000]), sectors: random.range(1, 12) }
     }
 
     /// Room for a request of 1 MiB and more, on a disk that could take two of them.
     pub fn large(random: &mut Random) -> Scale {
-        Scale { size: 1 << random.range(2, 8), room: 5 << 19, sectors: random.pick(&[2048, 2049, 4500]) }
+        Scale { size: 1 << random.pick(&[2, 3, 4, 5, 6, 7, 8, 10]), room: 5 << 19, sectors: random.pick(&[2048, 2049, 4500]) }
     }
 
     /// Room for a buffer of which a queue's whole length of them is more than 4 GiB.
     pub fn wide() -> Scale {
-        Scale { size: 256, room: 17 << 20, sectors: 4 }
+        Scale { size: LONGEST, room: 5 << 20, sectors: 4 }
+    }
+
+    /// A queue that is one of the longest, and a disk for requests that use all its descriptors.
+    pub fn long(random: &mut Random) -> Scale {
+        Scale { size: random.pick(&[LONGEST / 4, LONGEST / 2, LONGEST, LONGEST]), room: 45_000, sectors: random.range(3, 70) }
     }
 }
 
@@ -104,10 +110,10 @@ impl<'a> Case<'a> {
     }
 }
 
-/// Eight regions, any of which a device might wrongly remember.
+/// As many regions as there may be, any of which a device might wrongly remember.
 fn former(random: &mut Random, mem_len: u64) -> Vec<u64> {
     let len = mem_len.min(600);
-    (0..8).flat_map(|k| [(1 << 50) + 4096 * k, len, random.below(mem_len - len + 1)]).collect()
+    (0..REGIONS as u64).flat_map(|k| [(1 << 50) + 4096 * k, len, random.below(mem_len - len + 1)]).collect()
 }
 
 /// A disk somewhere inside a larger backing slice.

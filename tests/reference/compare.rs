@@ -135,6 +135,9 @@ impl<'a> Pair<'a> {
         let (reason, at, place) = (now[1], now[8], now[6].wrapping_sub(1));
         self.seen.add("broken, reason", reason);
         self.seen.add("broken, step", before[4]);
+        if let (3, Some(queue)) = (reason, &self.device.queue) {
+            self.seen.add("broken, a chain longer than the queue, of size", queue.areas.size);
+        }
         match at {
             NO_DESCRIPTOR => self.seen.add("broken at no descriptor, reason", reason),
             at if at != place => self.seen.add("broken at a descriptor whose number isn't its place, reason", reason),

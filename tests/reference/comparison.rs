@@ -11,6 +11,7 @@ mod honest;
 mod hostile;
 mod layout;
 mod library;
+mod long;
 mod random;
 mod reference;
 mod regions;
@@ -56,15 +57,21 @@ fn arguments() -> Option<Wanted> {
 fn one_case(seed: u64, seen: &mut Seen) {
     fail::begin_case(seed);
     let mut random = Random::new(seed);
-    let (wide, large, kind) = (seed % 400 == 7, seed % 40 == 3, seed % 10);
-    let mut scale = if wide { Scale::wide() } else if large { Scale::large(&mut random) } else { Scale::small(&mut random) };
+    let (wide, large, long, kind) = (seed % 400 == 7, seed % 40 == 3, seed % 20 == 12, seed % 10);
+    let mut scale = match () {
+        _ if wide => Scale::wide(),
+        _ if large => Scale::large(&mut random),
+        _ if long => Scale::long(&mut random),
+        _ => Scale::small(&mut random),
+    };
     if kind == 9 {
         scale.sectors += 64; // a number that no other word has by chance
     }
     let mut case = Case::new(random, scale, seen);
     match kind {
         _ if wide => wide::run(&mut case),
-        _ if large => honest::run(&mut case, 5),
+        _ if large => honest::run(&mut case, 8),
+        _ if long => long::run(&mut case),
         0..=3 => honest::run(&mut case, 12),
         4..=7 => hostile::run(&mut case, 12),
         8 => setup::run(&mut case, 200),

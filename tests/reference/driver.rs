@@ -55,6 +55,7 @@ impl Driver {
 
     /// An address for a buffer of `len` bytes, apart from `spots` if there is such a place at hand.
     pub fn place(&self, random: &mut Random, len: u64, spots: &mut Vec<(u64, u64)>) -> Option<u64> {
+        let tries = if spots.len() < 100 { 30 } else { 2 }; // in a long chain's company that would take too long
         for attempt in 0..40 {
             let region = random.pick(&self.memory.regions);
             if region.len < len {
@@ -65,7 +66,7 @@ impl Driver {
             let address = region.guest + random.pick(&[0, rest, skip, skip, skip]);
             let at = region.offset + (address - region.guest);
             let apart = !spots.iter().any(|(other, other_len)| overlap(*other, *other_len, at, len));
-            if apart || attempt >= 30 {
+            if apart || attempt >= tries {
                 spots.push((at, len));
                 return Some(address);
             }

@@ -22,7 +22,7 @@ fn amount(random: &mut Random, sectors: u64, most: u64) -> u64 {
     let some = 512 * random.below(whole + 1);
     let few = 512 * random.range(0, 3).min(whole);
     let edge = random.pick(&[0, 1, 511, 513, 512 * sectors, 512 * sectors + 512]);
-    let large = random.pick(&[MOST, MOST, MOST + 512, MOST - 512]);
+    let large = random.pick(&[MOST, MOST, MOST + 512, MOST + 512, MOST - 512]);
     let choice = if most > MOST { [large, large, large, some, few] } else { [few, few, some, some, edge] };
     random.pick(&choice).min(most)
 }
@@ -134,14 +134,15 @@ pub fn lay(case: &mut Case, pending: u64) -> u16 {
 pub fn serve(case: &mut Case, laid: u16) {
     let mut moment = None;
     let mut answered = 0;
-    for _ in 0..2000 {
+    let seldom = if case.room > MOST || case.enabling.areas.size >= 256 { 300 } else { 30 };
+    for _ in 0..3000 {
         match case.pair.step() {
             0 => break,
             2 => answered += 1,
             3 => return case.recover(),
             _ => (),
         }
-        if case.random.one_in(if case.room > MOST { 300 } else { 30 }) {
+        if case.random.one_in(seldom) {
             disturb(case, &mut moment);
         }
     }

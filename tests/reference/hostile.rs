@@ -5,6 +5,7 @@ use crate::case::Case;
 use crate::events::disturb;
 use crate::honest::lay;
 use crate::random::Random;
+use crate::regions::REGIONS;
 use crate::steps::Buffer;
 
 /// An address at the edge of a region or of an area, or any.
@@ -18,7 +19,7 @@ fn address(case: &mut Case, len: u64) -> u64 {
     let edges = [region.guest, region.guest.wrapping_sub(1), last, last.wrapping_add(1), end];
     let edge = case.random.pick(&edges);
     let ring = area + case.random.below(bytes);
-    let former = case.random.pick(&[0, 3, 6, 9, 12, 15, 18, 21]);
+    let former = 3 * case.random.index(REGIONS);
     case.random.pick(&[inside, inside, edge, edge, ring, ring, any, case.former[former]])
 }
 

@@ -1,8 +1,9 @@
-//! Where a case's guest has its memory: 1 to 8 regions at guest addresses from 0 to the very top, adjoining or far apart,
+//! Where a case's guest has its memory: 1 to 32 regions at guest addresses from 0 to the very top, adjoining or far apart,
 //! some sharing slice bytes, and the three areas somewhere in them, at a region's border too.
 
 use crate::areas::Areas;
 use crate::random::Random;
+use crate::regions::REGIONS;
 
 pub struct Layout {
     /// Three words for each region, as hd_memory takes them.
@@ -20,7 +21,8 @@ struct Stretch {
 
 /// `room` bytes and more beside the areas, in one region, and little in the others.
 pub fn layout(random: &mut Random, size: u64, room: u64) -> Layout {
-    let count = random.range(1, 8) as usize;
+    let (few, many) = (random.index(8) + 1, random.range(9, REGIONS as u64) as usize);
+    let count = random.pick(&[few, few, few, many, many, REGIONS]);
     let mut areas = Areas { size, desc: 0, avail: 0, used: 0 };
     let mut stretches = stretches(random, &mut areas, count, room);
     let base = base(random, &mut stretches);

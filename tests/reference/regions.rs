@@ -1,5 +1,8 @@
 //! Guest memory, 01 §1. Sums are made in 128 bits, so none of them wraps.
 
+/// As many regions as there may be.
+pub const REGIONS: usize = 32;
+
 #[derive(Clone, Copy)]
 pub struct Region {
     pub guest: u64,
@@ -25,7 +28,7 @@ pub fn overlap(a: u64, a_len: u64, b: u64, b_len: u64) -> bool {
 impl Memory {
     /// What hd_memory registers, or the answer with which it refuses. A number of words that is no multiple of 3 is 20 too.
     pub fn register(words: &[u64], mem_len: u64) -> Result<Memory, u64> {
-        if words.len() % 3 != 0 || words.is_empty() || words.len() > 24 {
+        if words.len() % 3 != 0 || words.is_empty() || words.len() > 3 * REGIONS {
             return Err(20);
         }
         let mut memory = Memory { regions: Vec::new(), mem_len };

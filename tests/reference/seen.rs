@@ -12,7 +12,7 @@ pub struct Seen {
 
 /// What must have been seen: answers of each call (the interface's table), reasons (01 §3), statuses of each type
 /// (03 §3), sizes and forms that the cuts have to reach.
-const WANTED: [(&str, &[u64]); 31] = [
+const WANTED: [(&str, &[u64]); 33] = [
     ("hd_memory", &[0, 20, 21, 22, 23, 24, 40]),
     ("hd_disk", &[0, 29, 30, 40, 41, 44]),
     ("hd_enable", &[0, 25, 26, 27, 28, 40, 41, 42, 43]),
@@ -40,8 +40,10 @@ const WANTED: [(&str, &[u64]); 31] = [
     ("IN of 1 MiB, of 1 MiB + 512, status", &[0, 1]),
     ("OUT of 1 MiB, of 1 MiB + 512, status", &[0, 1]),
     ("4 GiB and more, status", &[1]),
-    ("queue size", &[1, 2, 4, 8, 16, 32, 64, 128, 256]),
-    ("regions", &[1, 2, 3, 4, 5, 6, 7, 8]),
+    ("queue size", &[1, 2, 4, 8, 16, 32, 64, 128, 256, 512, 1024]),
+    ("answered, a chain of the whole queue, of size", &[2, 4, 8, 256, 512, 1024]),
+    ("broken, a chain longer than the queue, of size", &[1, 2, 4, 8, 256, 512, 1024]),
+    ("regions", &[1, 2, 3, 4, 5, 6, 7, 8, 9, 31, 32]),
     ("form", &[HEADER_CUT, PAYLOAD_CUT, STATUS_ALONE, STATUS_JOINED, WHOLE_CHAIN, WRAPPED, SEVERAL_PENDING]),
     ("spoilt state", &[RANDOM_WORDS, ONE_WORD, REFUSED, WENT_ON, IMPOSSIBLE, BROKEN, BROKEN_STILL, BROKEN_NO_MORE]),
 ];
@@ -92,12 +94,16 @@ impl Seen {
         let alone = writable.last().map_or(false, |last| last.len == 1);
         let joined = writable.last().map_or(false, |last| last.len > 1 && status == 0);
         let buffers = request.chain.len() - writable.len();
+        let whole = request.chain.len() as u64 == size;
+        if whole && status == 0 {
+            self.add("answered, a chain of the whole queue, of size", size);
+        }
         let forms = [
             (HEADER_CUT, request.header.len() == 16 && request.chain[0].len < 16),
             (PAYLOAD_CUT, !request.payload.is_empty() && buffers > 2),
             (STATUS_ALONE, alone),
             (STATUS_JOINED, joined),
-            (WHOLE_CHAIN, size > 1 && request.chain.len() as u64 == size),
+            (WHOLE_CHAIN, size > 1 && whole),
             (WRAPPED, answered == 0),
         ];
         for (form, _) in forms.iter().filter(|(_, so)| *so) {

@@ -1,6 +1,7 @@
 //! Set-up calls at the edges: arguments that would be taken, with one or more of them moved to an edge, in any order of
 //! calls. The tests' order shows where two of them are wrong.
 
+use crate::areas::LONGEST;
 use crate::case::Case;
 use crate::events::short_slice;
 use crate::fail::same;
@@ -21,6 +22,10 @@ fn memory(case: &mut Case) {
     let mut words = case.regions.clone();
     let mut mem_len = case.driver.memory.mem_len;
     let random = &mut case.random;
+    if random.one_in(8) {
+        words = case.former.clone(); // as many as there may be, perhaps one more
+        words.extend([1 << 51, 1, 0].iter().take(random.pick(&[0, 3])));
+    }
     for _ in 0..random.below(4) {
         let region = 3 * random.index(words.len() / 3);
         match random.below(10) {
@@ -37,7 +42,7 @@ fn memory(case: &mut Case) {
         }
     }
     if random.one_in(4) {
-        words.extend(random.bytes(27).iter().map(|byte| *byte as u64)); // nine regions more
+        words.extend(random.bytes(99).iter().map(|byte| *byte as u64)); // 33 regions more
         words.truncate(random.index(words.len() + 1));
     }
     case.pair.memory(&words, mem_len);
@@ -94,9 +99,9 @@ fn enable(case: &mut Case) {
     let edge = case.random.edge();
     words.start = case.random.pick(&[None, None, Some(0), Some(65_535), Some(65_536), Some(edge)]);
     for _ in 0..case.random.below(3) {
-        let power = 1 << case.random.below(10);
+        let power = 1 << case.random.below(12);
         match case.random.below(6) {
-            0 => words.areas.size = case.random.pick(&[0, 3, 255, 257, 512, power, edge]),
+            0 => words.areas.size = case.random.pick(&[0, 3, LONGEST - 1, LONGEST + 1, 2 * LONGEST, power, edge]),
             1 => words.areas.desc = area(case, desc),
             2 => words.areas.avail = area(case, avail),
             3 => words.areas.used = area(case, used),
@@ -109,9 +114,9 @@ fn enable(case: &mut Case) {
 
 /// hd_chain_words is 0 exactly for a size that enabling refuses; hd_stage_bytes is 1 MiB.
 fn sizes(random: &mut Random) {
-    let (edge, small, power) = (random.edge(), random.below(300), 1 << random.below(64));
+    let (edge, small, power) = (random.edge(), random.below(LONGEST + 50), 1 << random.below(64));
     let size = random.pick(&[edge, small, power]);
-    let refused = !(1..=256).contains(&size) || size & (size - 1) != 0;
+    let refused = !(1..=LONGEST).contains(&size) || size & (size - 1) != 0;
     same(&format!("hd_chain_words({}) is 0", size), refused, chain_words(size) == 0);
     same("hd_stage_bytes", MOST, stage_bytes());
 }

@@ -11,6 +11,7 @@
 //! - a refused set-up call changes no word, hd_reset leaves nothing enabled, and hd_memory makes a good state again:
 //!   from there on the reference follows once more.
 
+use crate::areas::LONGEST;
 use crate::case::Case;
 use crate::fail::{all_same, count_call, difference, same};
 use crate::hostile;
@@ -18,6 +19,7 @@ use crate::honest;
 use crate::library::{chain_words, state_words};
 use crate::random::Random;
 use crate::reference::{Device, Lens, NO_DESCRIPTOR, WORDS};
+use crate::regions::REGIONS;
 use crate::request::{Disk, MOST, SECTOR};
 use crate::seen::{BROKEN, BROKEN_NO_MORE, BROKEN_STILL, IMPOSSIBLE, ONE_WORD, RANDOM_WORDS, REFUSED, WENT_ON};
 
@@ -55,7 +57,7 @@ fn status(case: &mut Case) -> [u64; WORDS] {
     same("hd_status", 0, case.pair.lent.status(&lens));
     let mut words = [0; WORDS];
     words.copy_from_slice(case.pair.lent.out.lent(WORDS));
-    let limits = [1, 8, 65_535, 65_535, 7, 255, 257, u64::MAX, NO_DESCRIPTOR, 256];
+    let limits = [1, 8, 65_535, 65_535, 7, LONGEST - 1, LONGEST + 1, u64::MAX, NO_DESCRIPTOR, LONGEST];
     if words.iter().zip(&limits).any(|(word, limit)| word > limit) {
         difference(&format!("a status word beyond its limit: {:?}", words));
     }
@@ -64,7 +66,7 @@ fn status(case: &mut Case) -> [u64; WORDS] {
     } else if words[1] == 0 || words[6] == 0 {
         same(&format!("status {:?}: at no descriptor", words), NO_DESCRIPTOR, words[8]);
     } else {
-        same(&format!("status {:?}: at one of the table", words), true, words[8] < 256);
+        same(&format!("status {:?}: at one of the table", words), true, words[8] < LONGEST);
     }
     words
 }
@@ -106,7 +108,8 @@ fn impossible(case: &mut Case) -> (u64, u64) {
         (region.offset, mem_len - region.len + 1),
         (region.offset, u64::MAX),
         (mem_len, region.offset + region.len - 1),
-        (disk.sectors, 0), // 29
+        (case.enabling.areas.size, 2 * LONGEST), // 25
+        (disk.sectors, 0),                       // 29
         (disk.sectors, (1 << 32) + 1),
         (disk.start, disk.backing_len - SECTOR * disk.sectors + 1), // 30
         (disk.start, u64::MAX),
@@ -154,8 +157,9 @@ fn no_state(case: &mut Case) {
 
 fn other_value(random: &mut Random, word: u64, another: u64) -> u64 {
     let (edge, bit) = (random.edge(), 1 << random.below(64));
-    let small = random.below(600);
-    random.pick(&[word.wrapping_add(1), word.wrapping_sub(1), 0, u64::MAX, edge, word ^ bit, another, small])
+    let small = random.below(LONGEST + 100);
+    let limit = random.pick(&[LONGEST, REGIONS as u64]) - 1 + random.below(4);
+    random.pick(&[word.wrapping_add(1), word.wrapping_sub(1), 0, u64::MAX, edge, word ^ bit, another, small, limit])
 }
 
 /// Changes one word, and answers which: of the state, every other time one that the last step `wrote` if it wrote any,

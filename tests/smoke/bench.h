@@ -22,6 +22,9 @@
 #define DATA 0x80005000ull
 #define STATUS 0x80006000ull
 #define D(i) (DESC + 16 * (i))  // a descriptor: addr at 0, len at 8, flags at 12, next at 14
+#define W_DESC GUEST  // the areas of a queue of up to 1,024
+#define W_AVAIL (GUEST + 0x4000)
+#define W_USED (GUEST + 0x4808)
 enum { OUT_LEAST = 7, OUT_MOST = 12, NONE = HD_NO_DESCRIPTOR };
 enum { MEM = 65536, Q = 8, SECTORS = 64, DISK = 512 * SECTORS, STAGE = 1048576 };
 enum { START = 1537, BACKING = START + DISK + 999 };  // the disk inside a larger backing slice
@@ -61,7 +64,7 @@ static inline void fault(int sig)  // only ever raised inside a call of the libr
 
 enum { PAGE = 65536, SLACK = 0xa5 };  // PAGE: a multiple of the page size of every machine that runs this
 static int low;                       // slices lie at the low end of their pages, else at the high end
-static struct { uint8_t *beside; size_t n; } loans[64];
+static struct { uint8_t *beside; size_t n; } loans[160];
 static size_t loaned;
 
 static inline void *lend(size_t n)
@@ -95,7 +98,7 @@ static size_t size[SLICES], words, chain_words;
 #define stage ((uint8_t *)lent[OF_STAGE])
 static uint64_t *scant, *out;         // scant: a state one word too short; out: all the words of hd_status
 static uint64_t *out_of[OUT_MOST + 1];  // out_of[n]: n words for hd_status, from OUT_LEAST on
-static uint64_t *list[28];            // list[n]: n words for regions
+static uint64_t *list[100];           // list[n]: n words for regions
 static uint8_t *id, *id_of[22];       // id: "SCRATCH-0007"; id_of[n]: n bytes, for 0, 19 and 21
 static uint8_t want_mem[MEM], want_backing[BACKING];
 static size_t turn;  // the place of GUEST in the slice
@@ -166,12 +169,17 @@ static inline uint64_t step(void) { return hd_step(state, words, mem, MEM, backi
 
 static inline void blank(const char *name)  // nothing set up; memory, backing slice and disk as at the beginning
 {
+    static uint8_t first_mem[MEM], first_backing[BACKING];
     row = name, turn = 0;
-    for (size_t i = 0; i < MEM; i++) want_mem[i] = (uint8_t)(i % 251 + 1);
-    for (size_t i = 0; i < BACKING; i++) want_backing[i] = (uint8_t)(i * 11 + 5);
-    for (size_t i = 0; i < DISK; i++) want_backing[START + i] = (uint8_t)(7 * i + i / 512);
+    if (!first_mem[0]) {
+        for (size_t i = 0; i < MEM; i++) first_mem[i] = (uint8_t)(i % 251 + 1);
+        for (size_t i = 0; i < BACKING; i++) first_backing[i] = (uint8_t)(i * 11 + 5);
+        for (size_t i = 0; i < DISK; i++) first_backing[START + i] = (uint8_t)(7 * i + i / 512);
+    }
+    memcpy(want_mem, first_mem, MEM), memcpy(want_backing, first_backing, BACKING);
     memcpy(mem, want_mem, MEM), memcpy(backing, want_backing, BACKING);
-    memset(state, 0, size[OF_STATE]), memset(chain, 0x5a, size[OF_CHAIN]), memset(stage, 0x5b, STAGE);
+    memset(state, 0, size[OF_STATE]), memset(chain, 0x5a, size[OF_CHAIN]);
+    for (size_t i = 0; i < STAGE; i += 1024) memset(stage + i, 0x5b, 1024);  // at once it takes an emulator ten times as long
 }
 
 static inline void set_up(const char *name, uint64_t read_only)  // memory and disk, no queue yet

@@ -1,4 +1,4 @@
-// The worked examples of documents 01 and 03 through the C interface, byte for byte, and every answer of set-up.
+// The worked examples of documents 01 and 03 through the C interface, byte for byte, every answer of set-up, and the limits.
 // Two rounds: slices at the high end of their pages, so that a byte too far faults, then at the low end.
 // Each check is named after its row of the document.
 #define _DEFAULT_SOURCE
@@ -287,15 +287,19 @@ static void group_out(void)
 
 #include "setup.h"
 
+// ---- queues of 1,024, and 32 regions
+
+#include "limits.h"
+
 int main(void)
 {
     static const struct { const char *name; void (*run)(void); } groups[] = {
         {"01 §6 V1", group_v1}, {"01 §6 wrap", group_wrap}, {"01 §6 broken", group_broken}, {"where it broke", group_where},
         {"01 §6 answered", group_answered}, {"03 §6 requests", group_requests}, {"03 §6 split OUT", group_out}, {"set-up", group_set_up},
-        {"state, reset, slices", group_state}, {"spoilt words", group_spoilt}};
+        {"state, reset, slices", group_state}, {"spoilt words", group_spoilt}, {"queues of 1,024, 32 regions", group_limits}};
     signal(SIGSEGV, fault), signal(SIGBUS, fault);
     for (int round = 0; round < 2; round++) {
-        lend_all(round), before = malloc(8 * words);
+        lend_all(round), before = malloc(8 * (words + BEHIND));
         for (size_t i = 0; i < COUNT(groups); i++) {
             unsigned long already = checks;
             groups[i].run(), slack();

@@ -64,7 +64,8 @@ static void ordinals(void)
     static const struct { uint64_t n; const char *ending; } rows[] = {
         {1, "st"}, {2, "nd"}, {3, "rd"}, {4, "th"}, {9, "th"}, {10, "th"}, {11, "th"}, {12, "th"}, {13, "th"}, {14, "th"}, {20, "th"},
         {21, "st"}, {22, "nd"}, {23, "rd"}, {24, "th"}, {100, "th"}, {101, "st"}, {102, "nd"}, {103, "rd"}, {111, "th"}, {112, "th"},
-        {113, "th"}, {121, "st"}, {211, "th"}, {212, "th"}, {213, "th"}, {222, "nd"}, {253, "rd"}, {256, "th"}, {257, "th"}};
+        {113, "th"}, {121, "st"}, {211, "th"}, {212, "th"}, {213, "th"}, {222, "nd"}, {253, "rd"}, {256, "th"}, {257, "th"},
+        {1001, "st"}, {1012, "th"}, {1023, "rd"}, {1024, "th"}, {1025, "th"}};
     for (size_t i = 0; i < COUNT(rows); i++) {
         const uint64_t status[HD_STATUS_WORDS] = {1, 3, 0, 0, 0, 0, rows[i].n, 0, 255, 0};
         char want[HD_BROKEN_TEXT_BYTES];

@@ -7,8 +7,8 @@
 #define _DEFAULT_SOURCE
 #include "world.h"
 
-enum { PLACES = 128, SLOTS = 32, PARTS = 4, LARGEST = 2048, SLOT_BYTES = 8192, LONG_RUN = 400, SHORT_RUN = 12, PATIENCE = 60, SECONDS = 20, FEWEST = 400 };
-enum { RING_BYTES = 0x4000, SLICE = RING_BYTES + SLOTS * SLOT_BYTES };
+enum { PLACES = 1024, SLOTS = 32, PARTS = 4, LARGEST = 2048, SLOT_BYTES = 8192, LONG_RUN = 400, SHORT_RUN = 12, PATIENCE = 60, SECONDS = 20, FEWEST = 400 };
+enum { RING_BYTES = 0x7000, SLICE = RING_BYTES + SLOTS * SLOT_BYTES };
 enum { IN = 0, OUT = 1, FLUSH = 4, GET_ID = 8 };
 
 // ---- what the threads tell each other; all else that they share is guest memory
@@ -68,11 +68,14 @@ static unsigned cut(uint64_t *seed, unsigned slot, unsigned first_part, uint64_t
     return 2;
 }
 
+// A slot's descriptors are apart from each other, up to the table's last one.
+static unsigned descriptor_of(unsigned slot, unsigned part) { return PLACES / SLOTS / PARTS * (PARTS * slot + part + 1) - 1; }
+
 static void describe_part(unsigned slot, unsigned i, unsigned last, uint64_t at, uint64_t n, unsigned flags)
 {
-    const unsigned d = PARTS * slot + i;
-    *u64_at(D(d)) = at, *u32_at(D(d) + 8) = (uint32_t)n;
-    *u16_at(D(d) + 12) = (uint16_t)(flags | (i < last)), *u16_at(D(d) + 14) = (uint16_t)(d + 1);
+    const uint64_t d = W_DESC + 16 * descriptor_of(slot, i);
+    *u64_at(d) = at, *u32_at(d + 8) = (uint32_t)n;
+    *u16_at(d + 12) = (uint16_t)(flags | (i < last)), *u16_at(d + 14) = (uint16_t)descriptor_of(slot, i + 1);
 }
 
 // What 03 has for it, in the order of the ring: earlier writes count, later ones don't.
@@ -106,7 +109,7 @@ static void offer(uint64_t *seed, unsigned slot)
         for (uint64_t k = 0; k < s->n[i]; k++) byte_at(s->at[i])[k] = 0xcc;
         describe_part(slot, reads + i, reads + writes - 1, s->at[i], s->n[i], 2);
     }
-    *u16_at(AVAIL + 4 + 2 * (offered % PLACES)) = (uint16_t)(PARTS * slot);
+    *u16_at(W_AVAIL + 4 + 2 * (offered % PLACES)) = (uint16_t)descriptor_of(slot, 0);
     order[offered++] = slot;
 }
 
@@ -125,13 +128,13 @@ static void agree(const char *what, uint64_t want, uint64_t got)  // in the driv
 
 static void take_answer(void)
 {
-    const uint64_t entry = USED + 4 + 8 * (seen % PLACES);
+    const uint64_t entry = W_USED + 4 + 8 * (seen % PLACES);
     const uint32_t head = *u32_at(entry), len = *u32_at(entry + 4);
     const unsigned slot = order[seen++];
     struct slot *s = slots + slot;
     uint8_t got[LARGEST + 1];
     uint64_t n = 0;
-    agree("the head in the used entry", PARTS * slot, head), agree("answered while outstanding", 1, (uint64_t)s->busy);
+    agree("the head in the used entry", descriptor_of(slot, 0), head), agree("answered while outstanding", 1, (uint64_t)s->busy);
     for (unsigned i = 0; i < s->parts; i++)
         for (uint64_t k = 0; k < s->n[i]; k++) got[n++] = byte_at(s->at[i])[k];
     agree("the length in the used entry", s->len, len), agree("status", s->status, got[n - 1]);
@@ -144,7 +147,7 @@ static uint16_t watch(uint16_t outstanding, uint16_t until)
 {
     const time_t since = time(NULL);
     uint16_t moved, before = 0;
-    for (unsigned long polls = 1; (moved = (uint16_t)(*u16_at(USED + 2) - seen)) < until; polls++, before = moved) {
+    for (unsigned long polls = 1; (moved = (uint16_t)(*u16_at(W_USED + 2) - seen)) < until; polls++, before = moved) {
         if (moved < before) agree("used idx never goes back", before, moved);
         if (polls % 4096 == 0) sched_yield();
         if (polls % 65536 == 0 && time(NULL) - since > PATIENCE) agree("requests answered in time", outstanding, moved);
@@ -164,7 +167,7 @@ static void drive(void)
         for (unsigned slot = (unsigned)below(&seed, SLOTS); more > 0; slot = (slot + 1) % SLOTS)
             if (!slots[slot].busy) offer(&seed, slot), offered_now++, more--;
         atomic_thread_fence(memory_order_seq_cst);  // descriptors and entries before idx
-        *u16_at(AVAIL + 2) = offered;
+        *u16_at(W_AVAIL + 2) = offered;
         const uint16_t outstanding = (uint16_t)(offered_now - answered_now);
         const uint16_t moved = watch(outstanding, run_short ? outstanding : 1);
         atomic_thread_fence(memory_order_seq_cst);  // idx before the entries that it covers
@@ -190,9 +193,9 @@ static void host_run(unsigned long run, uint64_t *seed)
 {
     run_short = run % 8 != 0, run_requests = run_short ? SHORT_RUN : LONG_RUN, run_seed = draw(seed);
     run_start = run_short ? (run % 2 ? 65536 - 1 - below(seed, 8) : 256 * (1 + below(seed, 255)) - 1 - below(seed, 8)) : below(seed, 65536);
-    *u16_at(AVAIL + 2) = *u16_at(USED + 2) = (uint16_t)run_start;
+    *u16_at(W_AVAIL + 2) = *u16_at(W_USED + 2) = (uint16_t)run_start;
     same("hd_reset", 0, hd_reset(state, words));
-    same("hd_enable_at", 0, hd_enable_at(state, words, PLACES, DESC, AVAIL, USED, chain_words, STAGE, run_start));
+    same("hd_enable_at", 0, hd_enable_at(state, words, PLACES, W_DESC, W_AVAIL, W_USED, chain_words, STAGE, run_start));
     uint64_t done = 0;
     for (begun = run; finished != run; ) {
         const uint64_t answer = step_beside_a_driver(kinds);
@@ -202,7 +205,7 @@ static void host_run(unsigned long run, uint64_t *seed)
         if (answer == 0) sched_yield();
     }
     for (int i = 0; i < 3; i++) same("nothing more to do", 0, step_beside_a_driver(kinds));
-    same("each request answered once", run_requests, done), same("used idx in the end", (run_start + run_requests) % 65536, *u16_at(USED + 2));
+    same("each request answered once", run_requests, done), same("used idx in the end", (run_start + run_requests) % 65536, *u16_at(W_USED + 2));
     requests_done += done, carries += (run_start + run_requests) / 256 - run_start / 256;
 }
 

@@ -1,17 +1,42 @@
 // What a hostile guest writes into its memory: plausible requests, so that a device gets far, and damage of every kind.
 // The memory has three regions with bytes between them that are nobody's; they reach from the slice's first byte to its last.
+// Before them 29 others may be registered, so that all that a device looks for lies in the last three of 32.
 // The disk lies inside a larger backing slice.
 #ifndef HOSTILE_H
 #define HOSTILE_H
 
 #include "world.h"
 
-enum { LONGEST = 256, DISK_SECTORS = 4096, DISK_AT = 100001, BEHIND = 9999, BACKED = DISK_AT + 512 * DISK_SECTORS + BEHIND };
-enum { RINGS, LARGE, TOPMOST, REGIONS };
+// Other places than bench.h has: areas with room for a queue of 1,024.
+#undef DESC
+#undef AVAIL
+#undef USED
+#undef HEADER
+#undef DATA
+#undef STATUS
+#define DESC W_DESC
+#define AVAIL W_AVAIL
+#define USED W_USED
+#define HEADER (GUEST + 0x7000)
+#define DATA (GUEST + 0x8000)
+#define STATUS (GUEST + 0x9000)
+
+enum { LONGEST = 1024, DISK_SECTORS = 4096, DISK_AT = 100001, BEHIND = 9999, BACKED = DISK_AT + 512 * DISK_SECTORS + BEHIND };
+enum { RINGS, LARGE, TOPMOST, REGIONS, ALL_REGIONS = 32 };
 struct region { uint64_t guest, len, offset; };
-static const struct region regions[REGIONS] = {  // offsets are odd on purpose; LARGE: 255 buffers of it are over 4 GiB
+static const struct region regions[REGIONS] = {  // offsets are odd on purpose
     {GUEST, 65536, 17900001}, {0x100000000, 17 << 20, 0}, {TOP - 5000, 5000, 17970001}};
 enum { SLICE = 17975001 };
+static struct region registered[ALL_REGIONS];
+static size_t registered_count;
+
+static inline void register_memory(int all)  // the others are small, and lie over bytes of the large one
+{
+    registered_count = 0;
+    for (uint64_t k = 0; all && k < ALL_REGIONS - REGIONS; k++) registered[registered_count++] = (struct region){0x1000 * (k + 1), 16, 64 * k};
+    memcpy(registered + registered_count, regions, sizeof regions), registered_count += REGIONS;
+    same("hd_memory", 0, hd_memory(state, words, &registered[0].guest, 3 * registered_count, SLICE));
+}
 
 static inline void scrawl(uint64_t guest, unsigned n, uint64_t v)  // one store, inside a region
 {
@@ -79,7 +104,7 @@ static inline void plausible(uint64_t *seed, unsigned n, unsigned taken)
 
 static inline void damage(uint64_t *seed, unsigned n, unsigned taken)
 {
-    static const uint64_t edges[] = {0, 1, 2, 15, 16, 17, 255, 256, 512, 65535, 65536, 0x7fffffff, UINT32_MAX, TOP, TOP - 1, TOP - 511, GUEST, GUEST - 1, GUEST + 65535};
+    static const uint64_t edges[] = {0, 1, 2, 15, 16, 17, 255, 256, 512, 1023, 1024, 1025, 65535, 65536, 0x7fffffff, UINT32_MAX, TOP, TOP - 1, TOP - 511, GUEST, GUEST - 1, GUEST + 65535};
     const uint64_t i = below(seed, n), edge = below(seed, 2) ? ONE_OF(seed, edges) : draw(seed);
     switch (below(seed, 8)) {
     case 0: scrawl(D(i), 8, edge); break;

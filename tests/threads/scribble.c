@@ -68,9 +68,9 @@ static void wait_for_the_guest(void)
 static void one_run(uint64_t *seed, unsigned long steps)
 {
     static const uint64_t starts[] = {0, 250, 65530};
-    same("hd_memory", 0, hd_memory(state, words, &regions[0].guest, 3 * REGIONS, SLICE));
+    register_memory(below(seed, 2) == 0);
     same("hd_disk", 0, hd_disk(state, words, DISK_AT, DISK_SECTORS, below(seed, 8) == 0, id, 20, BACKED));
-    queue_size = 1u << below(seed, 4) << below(seed, 6);
+    queue_size = 1u << below(seed, 4) << below(seed, 8);
     in_turns = !in_turns;
     enable_at(ONE_OF(seed, starts));
     for (unsigned long i = 0; i < steps && !failed; i++) {

@@ -34,9 +34,8 @@ static uint32_t loaded_in[SLICE], step_count;  // the last step in which this gu
 
 static uint64_t offset_of(uint64_t guest, uint64_t n)  // in the slice; UINT64_MAX: not in memory
 {
-    for (int i = 0; i < REGIONS; i++)
-        if (guest >= regions[i].guest && n <= regions[i].len && guest - regions[i].guest <= regions[i].len - n)
-            return regions[i].offset + (guest - regions[i].guest);
+    for (const struct region *g = registered; g < registered + registered_count; g++)
+        if (guest >= g->guest && n <= g->len && guest - g->guest <= g->len - n) return g->offset + (guest - g->guest);
     return UINT64_MAX;
 }
 

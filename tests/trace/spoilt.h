@@ -13,7 +13,7 @@ static void stayed_inside(void)
 // Before each step of each worked request a few state words are overwritten, with edges and with anything.
 static void spoilt_state(uint64_t seed, int tries)
 {
-    static const uint64_t edges[] = {0, 1, 2, 7, 8, 9, 255, 256, 512, 65535, 65536, SLICE, SLICE - 1, BACKED, STAGE, UINT32_MAX, TOP, TOP - 511};
+    static const uint64_t edges[] = {0, 1, 2, 7, 8, 9, 31, 32, 33, 512, 1023, 1024, 1025, 65535, 65536, SLICE, SLICE - 1, BACKED, STAGE, UINT32_MAX, TOP, TOP - 511};
     for (size_t i = 0; i < COUNT(worked) && !failed; i++)
         for (int before = 0; before < 12 * tries && !failed; before++) {
             set_up_queue(8, 65535, 0), lay_worked(i);
@@ -27,7 +27,7 @@ static void spoilt_state(uint64_t seed, int tries)
 
 static void refuses_spoilt_chain(void)
 {
-    uint64_t kept[2 * LONGEST];
+    static uint64_t kept[2 * LONGEST];
     memcpy(kept, chain, size[OF_CHAIN]);
     for (unsigned i = 0; i < queue_size; i++) chain[2 * i] = SLICE;  // right behind guest memory
     same("spoilt chain words", 4, call_traced()), stayed_inside();

@@ -8,6 +8,7 @@
 #include "schedule.h"
 
 static unsigned long kinds[STEP_NUMBERS], reasons[REASONS], disk_writes;
+static int all_regions;  // whether set-up registers all 32
 
 static const uint64_t *status(void)
 {
@@ -19,7 +20,7 @@ static const uint64_t *status(void)
 static void set_up_queue(unsigned q, uint64_t start, uint64_t read_only)
 {
     queue_size = q, size[OF_CHAIN] = 16 * q;  // chain memory for more than q descriptors is not lent
-    same("hd_memory", 0, hd_memory(state, words, &regions[0].guest, 3 * REGIONS, SLICE));
+    register_memory(all_regions);
     same("hd_disk", 0, hd_disk(state, words, disk_start, DISK_SECTORS, read_only, id, 20, BACKED));
     same("hd_enable_at", 0, hd_enable_at(state, words, q, DESC, AVAIL, USED, 2 * q, STAGE, start));
     where.broken_at = NONE, where.last_chain = 0;
@@ -82,7 +83,7 @@ static void lay_worked(size_t i)
 static uint64_t steps_of_a_request(void)  // the last one's answer
 {
     uint64_t answer = 1;
-    for (int n = 0; n < 600 && answer == 1 && !failed; n++) answer = traced_step();
+    for (int n = 0; n < 3 * LONGEST && answer == 1 && !failed; n++) answer = traced_step();
     return answer;
 }
 
@@ -96,16 +97,40 @@ static void worked_requests(void)
 
 #include "spoilt.h"
 
-// 255 readable buffers with 2^32 + 528 bytes together: as a 32-bit sum, an OUT of one sector.
+// 1,023 readable buffers with 2^32 + 528 bytes together: as a 32-bit sum, an OUT of one sector.
 static void over_4_gib(void)
 {
     static struct span buffers[LONGEST];
-    const uint64_t each = 16843009, at = regions[LARGE].guest;
-    for (unsigned i = 0; i < 255; i++) buffers[i] = (struct span){at, i ? each : (1ull << 32) + 528 - 254 * each};
-    buffers[255] = (struct span){STATUS, 1};
+    const uint64_t each = 4198405, at = regions[LARGE].guest;
+    for (unsigned i = 0; i < LONGEST - 1; i++) buffers[i] = (struct span){at, i ? each : (1ull << 32) + 528 - (LONGEST - 2) * each};
+    buffers[LONGEST - 1] = (struct span){STATUS, 1};
     set_up_queue(LONGEST, 0, 0);
-    lay_in(0, 255, buffers, 255), scrawl(at, 8, 1), scrawl(at + 8, 8, 0), offer_one(0);
+    lay_in(0, LONGEST - 1, buffers, LONGEST - 1), scrawl(at, 8, 1), scrawl(at + 8, 8, 0), offer_one(0);
     same("a request of over 4 GiB is answered", 2, steps_of_a_request()), same("with status 1", 1, mem[offset_of(STATUS, 1)]);
+}
+
+// A write of 63 sectors by a chain of 1,024, with all 32 regions registered, and a read back into the same buffers.
+static void longest_chain(void)
+{
+    static struct span buffers[LONGEST];
+    static uint8_t written[63 * 512], *from;
+    const uint64_t bytes = sizeof written, n = LONGEST - 2;
+    uint64_t seed = 13;
+    buffers[0] = (struct span){HEADER, 16}, buffers[LONGEST - 1] = (struct span){STATUS, 1};
+    for (uint64_t i = 0; i < n; i++) buffers[i + 1] = (struct span){regions[LARGE].guest + 50 * (i * 7919 % n), bytes * (i + 1) / n - bytes * i / n};
+    for (uint64_t i = 0; i < bytes; i++) written[i] = (uint8_t)draw(&seed);
+    all_regions = 1, set_up_queue(LONGEST, 0, 0);
+    for (unsigned type = 2; type-- > 0 && !failed;) {
+        from = written;
+        for (uint64_t i = 1; i <= n; from += buffers[i++].len)
+            if (type) memcpy(mem + offset_of(buffers[i].at, 1), from, buffers[i].len);
+            else memset(mem + offset_of(buffers[i].at, 1), 0, buffers[i].len);
+        lay_in(0, LONGEST - 1, buffers, type ? LONGEST - 1 : 1), scrawl(HEADER, 8, type), scrawl(HEADER + 8, 8, 9), offer_one(1 - type);
+        same("a chain of 1,024 is answered", 2, steps_of_a_request()), same("with status 0", 0, mem[offset_of(STATUS, 1)]);
+        same_bytes("the sectors", written, backing + disk_start + 512 * 9, bytes), from = written;
+        for (uint64_t i = 1; i <= n; from += buffers[i++].len) same_bytes("a buffer of 1,022", from, mem + offset_of(buffers[i].at, 1), buffers[i].len);
+    }
+    all_regions = 0;
 }
 
 // A sector in two buffers, cut at every byte, written and read back: the copy goes by eights with a tail, and both begin at every
@@ -152,7 +177,8 @@ static void side_by_side(void)
 static void hostile_run(uint64_t seed, unsigned steps)
 {
     static const uint64_t starts[] = {0, 250, 65530};
-    const unsigned q = 1u << below(&seed, 4) << below(&seed, 6), calm = 2 + (unsigned)below(&seed, 40);
+    const unsigned q = 1u << below(&seed, 4) << below(&seed, 8), calm = 2 + (unsigned)below(&seed, 40);
+    all_regions = below(&seed, 4) == 0;
     set_up_queue(q, ONE_OF(&seed, starts), below(&seed, 8) == 0);
     for (unsigned i = 0; i < steps && !failed; i++) {
         const uint64_t answer = traced_step();
@@ -175,9 +201,10 @@ int main(int argc, char **argv)
     signal(SIGSEGV, fault), signal(SIGBUS, fault);
     open_log(argv[1]), lend_world(0, SLICE, BACKED, LONGEST);
     worked_requests();
-    if (!failed) over_4_gib(), every_length();
+    if (!failed) over_4_gib(), longest_chain(), every_length();
     if (!failed) spoilt_chain(SPLIT), spoilt_state(draw(&numbers), 10);
     for (uint64_t i = 0; i < runs && !failed; i++) hostile_run(draw(&numbers), 200);
+    all_regions = 0;
     if (!failed) side_by_side(), worked_requests();
     if (!failed) {
         printf("trace: %llu loads and stores, %lu writes to the disk\n", (unsigned long long)seen_accesses, disk_writes);

@@ -65,7 +65,7 @@ int main(int argc, char **argv)
     memory_make();
     for (int i = 0; i < DISKS; i++) set_up(&disk[i], argv[2], argv + 3 + WORDS * i), scene_handshake(&disk[i]), driver_connect(&disk[i]);
     for (int i = 0; i < DISKS; i += 2) scene_restarts(&disk[i]);
-    scene_stops(&disk[0]), scene_tables(&disk[0]), scene_hang_ups(&disk[0]), scene_turns(&disk[1], &disk[0]), scene_broken(&disk[0]);
+    scene_stops(&disk[0]), scene_tables(&disk[0]), scene_hang_ups(&disk[0]), scene_turns(&disk[1], &disk[0]), scene_long(&disk[0]), scene_broken(&disk[0]);
     hang_up(&disk[1].monitor), scene_malformed(&disk[1], &disk[0]);
     memory_outside_same();
     for (int i = 0; i < DISKS; i++) disk_same(&disk[i]), driver_print(&disk[i]);

@@ -93,6 +93,7 @@ void scene_stops(struct driver *d);
 void scene_tables(struct driver *d);
 void scene_hang_ups(struct driver *d);
 void scene_turns(struct driver *busy, struct driver *quick);
+void scene_long(struct driver *d);
 void scene_broken(struct driver *d);
 void scene_malformed(struct driver *d, struct driver *neighbour);
 

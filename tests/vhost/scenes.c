@@ -18,7 +18,8 @@ void scene_handshake(struct driver *d)
     uint64_t capacity;
     uint32_t most[2];
     memcpy(&capacity, p.config.bytes, 8), memcpy(most, p.config.bytes + 8, 8);
-    same("capacity", d->sectors, capacity), same("seg_max", d->queue_top - 2, most[1]), same("size_max: whole pages", 0, most[0] % 4096);
+    same("capacity", d->sectors, capacity), same("seg_max", d->queue_top - 2 < 256 ? d->queue_top - 2 : 256, most[1]);
+    same("size_max: whole pages", 0, most[0] % 4096), same("size_max: at least one", 1, most[0] > 0);
     same("a request within the limits is one that the device takes", 1, most[0] * most[1] <= 1048576 && (most[0] + 4096) * most[1] > 1048576);
     tell(s, SET_CONFIG, &p, 12 + 60, NULL, 0);  // does nothing, harms nothing
     hang_up(&d->monitor);
@@ -110,6 +111,82 @@ void scene_turns(struct driver *busy, struct driver *quick)
     busy->seen = busy->idx, driver_stop(busy), driver_stop(quick);
 }
 
+// ---- a queue of 1,024
+
+enum { LONGEST = 1024, PIECES = LONGEST - 2, MIB = 1048576 };
+static const uint64_t long_header = 0x10040000, long_status = 0x10040100;
+
+static uint16_t nth(unsigned i) { return (uint16_t)((341 * i + 3) % LONGEST); }  // the descriptor that is number i of its chain
+static uint32_t border(unsigned i) { return (uint32_t)((uint64_t)MIB * i / PIECES); }
+static uint64_t piece_at(unsigned i) { return 0x800080000 + 1028 * (i * 7919 % PIECES); }
+
+static void describe_long(const struct driver *d, unsigned i, uint64_t at, uint32_t len, unsigned flags)
+{
+    const struct descriptor one = {at, len, (uint16_t)flags, nth(i + 1)};
+    memory_put(d->at.desc + 16 * nth(i), &one, sizeof one);
+}
+
+// Header, 1 MiB in 1,022 buffers, status, from sector 3 on; flags are the last descriptor's.
+static void lay_long(struct driver *d, uint32_t type, unsigned flags)
+{
+    const uint32_t header[4] = {type, 0, 3, 0};
+    memory_put(long_header, header, sizeof header), memory_put(long_status, &(uint8_t){0xff}, 1);
+    describe_long(d, 0, long_header, sizeof header, 1), describe_long(d, LONGEST - 1, long_status, 1, flags);
+    for (unsigned i = 0; i < PIECES; i++) describe_long(d, i + 1, piece_at(i), border(i + 1) - border(i), type == 0 ? 3 : 1);
+    *memory_u16(d->at.avail + 4 + 2 * (d->idx % LONGEST)) = nth(0);
+    atomic_thread_fence(memory_order_seq_cst);  // the entry before idx
+    *(volatile uint16_t *)memory_u16(d->at.avail + 2) = (uint16_t)(d->idx + 1);
+    driver_kick(d);
+}
+
+static void long_answer(struct driver *d, uint32_t len)
+{
+    uint32_t entry[2];
+    uint64_t n;
+    uint8_t status;
+    while (*(volatile uint16_t *)memory_u16(d->at.used + 2) == d->idx) {
+        if (!heard(d->monitor.call, PATIENCE) || read(d->monitor.call, &n, 8) != 8) fail("no answer");
+    }
+    atomic_thread_fence(memory_order_seq_cst);  // idx before the entry
+    memory_get(d->at.used + 4 + 8 * (d->idx % LONGEST), entry, sizeof entry), memory_get(long_status, &status, 1);
+    same("head", nth(0), entry[0]), same("length", len, entry[1]), same("status", 0, status);
+    d->seen = ++d->idx;
+}
+
+static void long_pieces(uint8_t *bytes, bool put)
+{
+    for (unsigned i = 0; i < PIECES; i++) {
+        const uint32_t n = border(i + 1) - border(i);
+        if (put) memory_put(piece_at(i), bytes + border(i), n);
+        else memory_get(piece_at(i), bytes + border(i), n);
+    }
+}
+
+// What the daemon must log of a broken queue.
+static void must_say(const struct driver *d, const char *said, unsigned head)
+{
+    printf("must say: %s: queue broken: %s; head %u, taken %u\n", d->path, said, head, d->idx);
+}
+
+// A chain of all descriptors: written, read back, and with NEXT on its last one refused.
+void scene_long(struct driver *d)
+{
+    static uint8_t bytes[MIB], nothing[MIB];
+    uint64_t n;
+    row = "a chain of 1,024";
+    d->size = LONGEST, d->at = (struct place){0x10000000, 0x10004000, 0x10005000};
+    *memory_u16(d->at.avail + 2) = *memory_u16(d->at.used + 2) = d->idx = d->seen = 65535;
+    ring_start(&d->monitor, LONGEST, 65535, &d->at);
+    for (size_t i = 0; i < MIB; i++) bytes[i] = (uint8_t)(i * 31 + i / 4096);
+    long_pieces(bytes, true), lay_long(d, 1, 2), long_answer(d, 1);
+    memcpy(d->disk + 512 * 3, bytes, MIB), d->tally.out++, d->tally.written += MIB;
+    long_pieces(nothing, true), lay_long(d, 0, 2), long_answer(d, MIB + 1), long_pieces(nothing, false);
+    same("what was written is read", 0, (uint64_t)memcmp(bytes, nothing, MIB) != 0), d->tally.in++, d->tally.read += MIB;
+    must_say(d, "reason 3, chain longer than the queue, at descriptor 3, the 1025th of its chain", nth(0)), lay_long(d, 0, 3);
+    if (!heard(d->monitor.err, PATIENCE) || read(d->monitor.err, &n, 8) != 8) fail("no error was told");
+    driver_stop(d);
+}
+
 // ---- drivers that leave the rules
 
 // The first descriptor of a chain is the head's, the second stands where its next says.
@@ -135,12 +212,6 @@ static void lay_wrong(const struct driver *d, uint16_t head, const struct descri
     if (head < 16) memory_put(d->at.desc + 16 * head, chain, sizeof *chain);
     if (head < 16 && chain[0].next < 16 && chain[1].at) memory_put(d->at.desc + 16 * chain[0].next, chain + 1, sizeof *chain);
     *memory_u16(d->at.avail + 4 + 2 * (d->idx % 16)) = head;
-}
-
-// What the daemon must log of it.
-static void must_say(const struct driver *d, const char *said, unsigned head)
-{
-    printf("must say: %s: queue broken: %s; head %u, taken %u\n", d->path, said, head, d->idx);
 }
 
 void scene_broken(struct driver *d)

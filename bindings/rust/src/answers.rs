@@ -87,7 +87,7 @@ codes! {
 codes! {
     /// Why guest memory was not registered. What was set up before is unchanged.
     MemoryError, "memory refused":
-    20 Count "not 1 to 8 regions",
+    20 Count "not 1 to 32 regions",
     21 Empty "a region of length 0",
     22 LeavesSlice "a region leaves the memory slice",
     23 LeavesAddresses "a region's guest address + length is over 2^64 - 1",
@@ -105,7 +105,7 @@ codes! {
 codes! {
     /// Why a queue was not enabled. What was set up before is unchanged.
     EnableError, "queue refused":
-    25 Size "the size is not a power of two from 1 to 256",
+    25 Size "the size is not a power of two from 1 to 1,024",
     26 Alignment "descriptors not at a multiple of 16, the available ring of 2, or the used ring of 4",
     27 Memory "an area isn't wholly inside one region",
     28 Overlap "the used ring overlaps the available ring or the descriptors",

@@ -24,7 +24,7 @@ impl Device {
         Device { state: vec![0; words as usize], chain: Vec::new(), stage: vec![0; bytes as usize] }
     }
 
-    /// Registers guest memory: 1 to 8 regions of a slice of `mem_len` bytes. All that was set up before is forgotten, an
+    /// Registers guest memory: 1 to 32 regions of a slice of `mem_len` bytes. All that was set up before is forgotten, an
     /// enabled queue too; a request at hand is dropped without an answer.
     pub fn memory(&mut self, regions: &[Region], mem_len: usize) -> Result<(), MemoryError> {
         let words: Vec<u64> = regions.iter().flat_map(|r| [r.guest, r.len, r.offset]).collect();
@@ -66,7 +66,7 @@ impl Device {
     pub fn enable_at(&mut self, queue: &Queue, start: u16) -> Result<(), EnableError> {
         let Queue { size, desc, avail, used } = *queue;
         // SAFETY: the function has no condition, and takes no pointer.
-        let wanted = unsafe { sys::hd_chain_words(size) } as usize; // at most 2 * 256; 0 for a size that is refused
+        let wanted = unsafe { sys::hd_chain_words(size) } as usize; // at most 2 * 1,024; 0 for a size that is refused
         if self.chain.len() < wanted {
             self.chain.resize(wanted, 0);
         }

@@ -53,9 +53,9 @@ pub const SECTOR_BYTES: usize = 512;
 /// Bytes of a disk's identity.
 pub const ID_BYTES: usize = 20;
 /// The largest number of regions.
-pub const REGIONS_MAX: usize = 8;
+pub const REGIONS_MAX: usize = 32;
 /// The largest queue size.
-pub const QUEUE_SIZE_MAX: u64 = 256;
+pub const QUEUE_SIZE_MAX: u64 = 1024;
 /// The largest disk, in sectors.
 pub const SECTORS_MAX: u64 = 1 << 32;
 /// Data bytes of the largest read or write; a larger one gets status 1 (I/O error).

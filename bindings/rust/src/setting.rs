@@ -31,7 +31,7 @@ pub struct Disk {
     pub id: [u8; ID_BYTES],
 }
 
-/// A queue: its size, a power of two from 1 to 256, and the guest addresses of its three areas.
+/// A queue: its size, a power of two from 1 to 1,024, and the guest addresses of its three areas.
 #[derive(Clone, Copy, Debug, PartialEq, Eq)]
 pub struct Queue {
     /// The number of descriptors, and of entries of each ring.

@@ -49,7 +49,10 @@ impl Bench {
     }
 
     fn describe(&mut self, i: usize, offset: u64, len: u32, flags: u16, next: u16) {
-        let at = 0x1000 + 16 * i;
+        self.describe_at(0x1000 + 16 * i, offset, len, flags, next);
+    }
+
+    fn describe_at(&mut self, at: usize, offset: u64, len: u32, flags: u16, next: u16) {
         self.put(at, &(GUEST + offset).to_le_bytes());
         self.put(at + 8, &len.to_le_bytes());
         self.put(at + 12, &flags.to_le_bytes());
@@ -173,7 +176,7 @@ fn a_break_in_words() {
         (Some(0), 1, Reason::Empty, "reason 5, buffer of length 0, at descriptor 0, the 1st of its chain"),
         (None, 0, Reason::Idx, "reason 1, available idx too far ahead"),
         (None, 0, Reason::Index, "reason 2, index past the table, in the available ring"),
-        (Some(255), 2, Reason::Index, "reason 2, index past the table, at descriptor 255, the 2nd of its chain"),
+        (Some(1023), 2, Reason::Index, "reason 2, index past the table, at descriptor 1023, the 2nd of its chain"),
         (None, 0, Reason::Other(9), "reason 9, unknown code"),
     ];
     for (broken_at, descriptors, reason, words) in rows {
@@ -181,7 +184,7 @@ fn a_break_in_words() {
         assert_eq!(status.to_string(), format!("queue broken: {words}"));
     }
     let ordinals =
-        "1st 2nd 3rd 4th 10th 11th 12th 13th 14th 20th 21st 22nd 23rd 101st 111th 112th 113th 121st 212th 257th";
+        "1st 2nd 3rd 4th 10th 11th 12th 13th 14th 20th 21st 22nd 23rd 101st 111th 112th 113th 121st 212th 257th 1013th 1025th";
     for ordinal in ordinals.split(' ') {
         let descriptors = ordinal[..ordinal.len() - 2].parse().unwrap();
         let broken = Some(Reason::ChainLong);
@@ -211,7 +214,7 @@ fn every_memory_error() {
     let at = |guest, len, offset| Region { guest, len, offset };
     let rows = [
         (vec![], MemoryError::Count),
-        (vec![at(0, 1, 0); 9], MemoryError::Count),
+        (vec![at(0, 1, 0); REGIONS_MAX + 1], MemoryError::Count),
         (vec![at(GUEST, 0, 0)], MemoryError::Empty),
         (vec![at(GUEST, 2, MEM as u64 - 1)], MemoryError::LeavesSlice),
         (vec![at(GUEST, 2, u64::MAX)], MemoryError::LeavesSlice),
@@ -272,6 +275,50 @@ fn sizes_one_after_the_other() {
     }
 }
 
+/// A read of two sectors by a chain of 1,024: header, 1,021 bytes and a buffer of three, status; everything lies in the
+/// last of 32 regions. With NEXT on its last descriptor it is too long.
+#[test]
+fn the_longest_chain() {
+    let mut bench = Bench::set_up(&disk());
+    let mut regions: Vec<Region> =
+        (1..REGIONS_MAX as u64).map(|i| Region { guest: i, len: 1, offset: i }).chain([WHOLE]).collect();
+    assert_eq!(bench.device.memory(&regions, MEM), Ok(()));
+    bench.device.disk(&disk(), BACKING).unwrap();
+    let wide = Queue { size: QUEUE_SIZE_MAX, desc: GUEST + 0x8000, avail: GUEST + 0x2000, used: GUEST + 0xc000 };
+    for size in [512, QUEUE_SIZE_MAX] {
+        assert_eq!(bench.device.enable(&Queue { size, ..wide }), Ok(()));
+        bench.device.reset();
+    }
+    let last = QUEUE_SIZE_MAX as usize - 1;
+    bench.put(0x4008, &[3]);
+    for i in 0..=last {
+        let (offset, len, flags) = match i {
+            0 => (0x4000, 16, 1),
+            i if i == last => (0x6000, 1, 2),
+            i => (0x5000 + i as u64 - 1, if i == last - 1 { 3 } else { 1 }, 3),
+        };
+        bench.describe_at(0x8000 + 16 * i, offset, len, flags, ((i + 1) % (last + 1)) as u16);
+    }
+    for (flags, want) in [(2, Step::Answered), (3, Step::Broken(Reason::ChainLong))] {
+        bench.put(0x8000 + 16 * last + 12, &[flags]);
+        bench.device.enable(&wide).unwrap();
+        let answer = (0..1100).map(|_| bench.step()).find(|s| *s != Step::WentOn).unwrap();
+        assert_eq!(answer, want);
+        if answer == Step::Answered {
+            assert_eq!(bench.device.status().last_chain, QUEUE_SIZE_MAX);
+            assert_eq!(bench.mem[0x5000..0x5400], bench.backing[START + 3 * 512..START + 5 * 512]);
+            assert_eq!(bench.mem[0xc002..0xc00c], [1, 0, 0, 0, 0, 0, 1, 4, 0, 0]);
+            assert_eq!(bench.mem[0x6000], 0);
+        } else {
+            let words = "reason 3, chain longer than the queue, at descriptor 0, the 1025th of its chain";
+            assert_eq!(bench.device.status().to_string(), format!("queue broken: {words}"));
+        }
+        bench.device.reset();
+    }
+    regions.push(Region { guest: 0, len: 1, offset: 0 });
+    assert_eq!(bench.device.memory(&regions, MEM), Err(MemoryError::Count));
+}
+
 #[test]
 fn a_queue_taken_over() {
     let mut bench = Bench::set_up(&disk());
@@ -306,7 +353,7 @@ fn a_device_moves_to_another_thread() {
 #[test]
 fn errors_speak() {
     let said: Box<dyn std::error::Error> = EnableError::Size.into();
-    assert_eq!(said.to_string(), "queue refused: the size is not a power of two from 1 to 256 (25)");
+    assert_eq!(said.to_string(), "queue refused: the size is not a power of two from 1 to 1,024 (25)");
     assert_eq!(Reason::Empty.to_string(), "queue broken: buffer of length 0 (5)");
     assert_eq!(MemoryError::Other(99).to_string(), "memory refused: unknown code 99");
     let shown = format!("{:?}", Device::new());

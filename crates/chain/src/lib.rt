@@ -4,6 +4,7 @@ ghost use mathlib.Core.Bool.{true};
 ghost use Prim.Native.Nat.{_+_, _*_, _%_, _≤_, _<_, _^_};
 ghost use lib.ListN.{length};
 ghost use lib.Dec.{leb, ltb, eqb};
+ghost use Rattle.model.specs.Ring.{sizeMax};
 ghost use Rattle.model.specs.Pick.{both};
 ghost use Rattle.model.specs.Memory.{regions, sound};
 ghost use Rattle.model.specs.Chain.{descAt, testedBy, tested, tally, held, complete, described, descsAfter, keeps};
@@ -138,7 +139,7 @@ pub fn described(
     chain: &mut [usize],
 ) -> Linked
     requires { ⌜ sound m (regions (now map)) ≡ true ⌝ }
-    requires { ⌜ q ≤ 256 ⌝ }
+    requires { ⌜ q ≤ sizeMax ⌝ }
     requires { ⌜ 2 * q ≤ length (now chain) ⌝ }
     requires { ⌜ k .count ≤ q ⌝ }
     requires { ⌜ k .reads ≤ q ⌝ }

@@ -2,12 +2,13 @@
 use Prim.Native.Nat.{ℕ, _+_, _-_, _*_, _≤_, _<_}
 use mathlib.Core.List.{List}
 use lib.ListN.{length, getD}
+use Rattle.model.specs.Ring.{sizeMax}
 use Rattle.model.specs.declared.Disk.{Disk}
 use Rattle.model.specs.declared.Walk.{Walk}
 use Rattle.model.specs.declared.Place.{Place}
 
 pub record HeaderFit (k : Walk) (p : Place) (got : ℕ) (chain : List ℕ) (mem stage : ℕ) : Type 0 where
-  pub buf-low : p .buf < 256
+  pub buf-low : p .buf < sizeMax
   pub chain-long : 2 * p .buf + 1 < length chain
   pub skip-in : p .skip < getD chain (2 * p .buf + 1) 0
   pub buffer-in : getD chain (2 * p .buf) 0 + getD chain (2 * p .buf + 1) 0 ≤ mem
@@ -16,7 +17,7 @@ pub record HeaderFit (k : Walk) (p : Place) (got : ℕ) (chain : List ℕ) (mem 
   pub w-some : 1 ≤ k .w
 
 pub record PayloadFit (d : Disk) (k : Walk) (p : Place) (sector got : ℕ) (chain : List ℕ) (mem stage backing : ℕ) : Type 0 where
-  pub buf-low : p .buf < 256
+  pub buf-low : p .buf < sizeMax
   pub chain-long : 2 * p .buf + 1 < length chain
   pub skip-in : p .skip < getD chain (2 * p .buf + 1) 0
   pub buffer-in : getD chain (2 * p .buf) 0 + getD chain (2 * p .buf + 1) 0 ≤ mem

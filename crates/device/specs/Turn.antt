@@ -4,6 +4,7 @@ use mathlib.Core.Bool.{true}
 use mathlib.Core.List.{List}
 use mathlib.Core.Path.{_≡_}
 use lib.ListN.{length}
+use Rattle.model.specs.Ring.{sizeMax}
 use Rattle.model.specs.Memory.{regions, sound}
 use Rattle.model.specs.Step.{Cfg, State, Out}
 use Rattle.model.specs.Sane.{sane, ready}
@@ -22,7 +23,7 @@ stateOf taken answered descs p = record { taken = taken; answered = answered; de
 pub record Fit (c : Config) (taken answered : ℕ) (p : Phase) (map : List ℕ) (mem backing : ℕ) (chain : List ℕ) (stage : ℕ) : Type 0 where
   pub sound-map : sound (c .m) (regions map) ≡ true
   pub size-some : 1 ≤ c .queue .size
-  pub size-high : c .queue .size ≤ 256
+  pub size-high : c .queue .size ≤ sizeMax
   pub desc-in : c .queue .desc + 16 * c .queue .size ≤ c .m
   pub avail-in : c .queue .avail + (6 + 2 * c .queue .size) ≤ c .m
   pub used-in : c .queue .used + (6 + 8 * c .queue .size) ≤ c .m

@@ -3,6 +3,7 @@ ghost use mathlib.Core.Path.{_≡_};
 ghost use mathlib.Core.List.{_++_};
 ghost use Prim.Native.Nat.{_+_, _-_, _*_, _≤_, _<_, _^_};
 ghost use lib.ListN.{length};
+ghost use Rattle.model.specs.Ring.{sizeMax};
 ghost use Rattle.model.specs.Pick.{pick};
 ghost use Rattle.model.specs.Bytes.{put, part, word};
 ghost use Rattle.model.specs.Step.{left, lacks, ends, onward, gathered, paid};
@@ -16,7 +17,7 @@ use model::Walk;
 fn onward(p: Place, l: usize, n: usize) -> Place
     requires { ⌜ n ≤ l ⌝ }
     requires { ⌜ p .skip + l < 2 ^ 64 ⌝ }
-    requires { ⌜ p .buf < 256 ⌝ }
+    requires { ⌜ p .buf < sizeMax ⌝ }
     ensures { λ r. ⌜ r ≡ onward p l n ⌝ }
 {
     if n == l {
@@ -44,7 +45,7 @@ fn gathered(
 ) -> Phase
     requires { ⌜ n ≤ l ⌝ }
     requires { ⌜ p .skip + l < 2 ^ 64 ⌝ }
-    requires { ⌜ p .buf < 256 ⌝ }
+    requires { ⌜ p .buf < sizeMax ⌝ }
     requires { ⌜ got + n ≤ 16 ⌝ }
     requires { ⌜ 1 ≤ k .w ⌝ }
     ensures { λ r. ⌜ r ≡ gathered d k p got l n kind sector ⌝ }

@@ -6,7 +6,7 @@ ghost use Prim.Native.Nat.{_+_, _*_, _%_, _≤_, _<_};
 ghost use lib.ListN.{length};
 ghost use Rattle.model.specs.Bytes.{put, word, bytes};
 ghost use Rattle.model.specs.Memory.{regions, sound};
-ghost use Rattle.model.specs.Ring.{polled, headed, oneMore};
+ghost use Rattle.model.specs.Ring.{polled, headed, oneMore, sizeMax};
 ghost use Rattle.model.specs.Chain.{descAt, tested, described, descsAfter, keeps};
 ghost use Rattle.model.specs.Step.{codeAfter};
 use model::Disk;
@@ -59,7 +59,7 @@ pub fn descriptor(
     chain: &mut [usize],
 ) -> Linked
     requires { ⌜ sound m (regions (now map)) ≡ true ⌝ }
-    requires { ⌜ queue .size ≤ 256 ⌝ }
+    requires { ⌜ queue .size ≤ sizeMax ⌝ }
     requires { ⌜ queue .desc + 16 * queue .size ≤ length (now mem) ⌝ }
     requires { ⌜ 2 * queue .size ≤ length (now chain) ⌝ }
     requires { ⌜ cur < queue .size ⌝ }

@@ -21,7 +21,7 @@ use Rattle.model.proofs.Sane.{inside-at}
 use Rattle.requests.specs.Serve.{gather}
 use Rattle.driver.specs.Take.{freed, released, spotsIn, countable, judged, outstanding}
 use Rattle.driver.proofs.Laws.{queue-ok}
-use Rattle.model.specs.Ring.{pending, oneMore}
+use Rattle.model.specs.Ring.{pending, oneMore, sizeMax}
 use Rattle.driver.specs.declared.Taken.{Taken}
 use Rattle.driver.specs.declared.Taken.the-variants.{None, Strange, Answer}
 use Rattle.driver.specs.declared.Driver.{Driver}
@@ -127,7 +127,7 @@ pub record Named (d : Driver) (own : List ℕ) (d₂ : Driver) (head : ℕ) : Ty
   pub queue-is : d₂ .queue .size ≡ d .queue .size
   pub head-in : head < d .queue .size
   pub own-long : d .queue .size ≤ length own
-  pub small : d .queue .size ≤ 256
+  pub small : d .queue .size ≤ sizeMax
 
 pub judged-answer : (d : Driver) (m : ℕ) (own : List ℕ) (idx id len : ℕ) (d₂ : Driver) (head n : ℕ) → judged d m own idx id len ≡ Answer d₂ head n → Named d own d₂ head
 unfolding judged outstanding countable

@@ -15,7 +15,7 @@ use lib.ListN.{getD, length, take, drop, length-append, length-take}
 use Rattle.model.specs.Pick.{pick, both}
 use Rattle.model.specs.Bytes.{put, part, bytes}
 use Rattle.model.specs.Memory.{Region, overlap, sound}
-use Rattle.model.specs.Ring.{sizeOk}
+use Rattle.model.specs.Ring.{sizeOk, sizeMax}
 use Rattle.model.specs.declared.Queue.{Queue}
 use Rattle.model.specs.Step.{Span, Store, spans, buffer, apply, scatter}
 use Rattle.model.proofs.Lists.{put-put, put-nil, part-zero, part-first, part-all}
@@ -171,7 +171,7 @@ pub record ReadyOk (q : Queue) (rs : List Region) (m own : ℕ) : Type 0 where
   pub map-sound : sound m rs ≡ true
   pub size-ok : sizeOk (q .size) ≡ true
   pub some-size : 1 ≤ q .size
-  pub small : q .size ≤ 256
+  pub small : q .size ≤ sizeMax
   pub desc-in : q .desc + 16 * q .size ≤ m
   pub avail-in : q .avail + (6 + 2 * q .size) ≤ m
   pub used-in : q .used + (6 + 8 * q .size) ≤ m
@@ -180,7 +180,7 @@ pub record ReadyOk (q : Queue) (rs : List Region) (m own : ℕ) : Type 0 where
 pub record QueueOk (q : Queue) (m : ℕ) : Type 0 where
   pub size-ok : sizeOk (q .size) ≡ true
   pub some-size : 1 ≤ q .size
-  pub small : q .size ≤ 256
+  pub small : q .size ≤ sizeMax
   pub desc-in : q .desc + 16 * q .size ≤ m
   pub avail-in : q .avail + (6 + 2 * q .size) ≤ m
   pub used-in : q .used + (6 + 8 * q .size) ≤ m

@@ -4,6 +4,7 @@ ghost use mathlib.Core.Bool.{true};
 ghost use mathlib.Core.List.{[], _∷_};
 ghost use Prim.Native.Nat.{_+_, _*_, _≤_, _<_};
 ghost use lib.ListN.{length};
+ghost use Rattle.model.specs.Ring.{sizeMax};
 ghost use Rattle.model.specs.Bytes.{put};
 ghost use Rattle.model.specs.Memory.{regions, sound};
 ghost use Rattle.driver.specs.Lay.{queueIn, ready, countsOk, spotOf, inMemory, settled, areaWords};
@@ -42,7 +43,7 @@ pub fn ready(q: Queue, map: &[usize], m: usize, own: usize) -> bool
 
 // Whole buffers, at most q, and private memory for them.
 pub fn counts_ok(q: usize, words: usize, reads: usize, spots: usize, nums: usize) -> bool
-    requires { ⌜ q ≤ 256 ⌝ }
+    requires { ⌜ q ≤ sizeMax ⌝ }
     ensures { λ r. ⌜ r ≡ countsOk q words reads spots nums ⌝ }
 {
     let e = words / 2;
@@ -94,8 +95,8 @@ pub fn settle(map: &[usize], m: usize, bufs: &[usize], e: usize, spots: &mut [us
 
 // The areas' spots, behind those of e buffers.
 pub fn note_areas(q: Queue, e: usize, spots: &mut [usize])
-    requires { ⌜ q .size ≤ 256 ⌝ }
-    requires { ⌜ e ≤ 256 ⌝ }
+    requires { ⌜ q .size ≤ sizeMax ⌝ }
+    requires { ⌜ e ≤ sizeMax ⌝ }
     requires { ⌜ 2 * e + 6 ≤ length (now spots) ⌝ }
     ensures { λ _. ⌜ now (spots .exit) ≡ put (now (spots .entry)) (2 * e) (areaWords q) ⌝ }
 {

@@ -14,13 +14,12 @@ use Rattle.model.specs.Ring.{polled, headed, pending, areas}
 use Rattle.model.specs.Chain.{descAt, tested, tally, complete, described}
 use Rattle.model.specs.Request.{verdict, decided, diskCode}
 use Rattle.model.specs.Step.{Cfg, left, lacks, ends, onward, gathered, paid, next, effect, codeOf, codeAfter, counted, fetched, measured, step, stepWith}
-use Rattle.words.specs.Layout.{stateWords, rowAt, phaseOf, configAt, mapWords, saved, level}
+use Rattle.words.specs.Layout.{stateWords, rowAt, phaseOf, configAt, mapWords, saved, level, levelWord, takenWord, answeredWord, descsWord}
 use Rattle.words.proofs.Saved.{phase-saved, length-saved}
 use Rattle.device.specs.Turn.{cfgOf, stateOf}
-use Rattle.hostiledisk.specs.Calls.{Set, Called, stepped, steppedOn, Going, hdMemory, hdDisk, diskSet, queueSet, enabledWith, hdEnableAt, hdReset}
+use Rattle.hostiledisk.specs.Calls.{Set, Called, stepped, steppedOn, Going, memorySet, hdMemory, hdDisk, diskSet, queueSet, enabledWith, hdEnableAt, hdReset}
 use Rattle.model.proofs.Tests.{on, both-r}
 use Rattle.model.proofs.Chain.{tally-same}
-use Rattle.model.proofs.Lists.{put-in}
 use Rattle.model.specs.Memory.{regions, memoryCode}
 use Rattle.model.specs.declared.Areas.{Areas}
 use Rattle.model.specs.declared.Areas.the-variants.{Refused, Placed}
@@ -28,7 +27,7 @@ use Rattle.guarantees.specs.Accounts.{held, atHand, Fate, answered, drop
 use Rattle.guarantees.specs.History.{Call, memory, disk, enable, reset, step as stepOver, World, ran, left as leaves, run, BytesNow, Bytes}
 use Rattle.guarantees.specs.Good.{Made}
 use Rattle.guarantees.proofs.Step.{by-answer}
-use Rattle.guarantees.proofs.Reached.{Kept, kept-call, level-tag, disk-tag, queue-phase}
+use Rattle.guarantees.proofs.Reached.{Kept, kept-call, level-tag, memory-tag, disk-tag, queue-phase}
 use Rattle.guarantees.proofs.Stays.{stays}
 use Rattle.model.specs.declared.Desc.{Desc}
 use Rattle.model.specs.declared.Tested.{Tested}
@@ -154,17 +153,17 @@ account-stepped w mem b g m =
     let s = w .state in
     let p = phaseOf (rowAt s) in
     let c = cfgOf (configAt s) (mapWords s) in
-    let f = fetched c (stateOf (getD s 40 0) (getD s 41 0) (getD s 52 0) p) (w .chain) mem in
-    let q = next c (getD s 40 0) (w .chain) (w .stage) p f in
+    let f = fetched c (stateOf (getD s takenWord 0) (getD s answeredWord 0) (getD s descsWord 0) p) (w .chain) mem in
+    let q = next c (getD s takenWord 0) (w .chain) (w .stage) p f in
     let e = effect (w .chain) (w .stage) p f in
-    let t = counted e (getD s 40 0) in
-    let a = counted e (getD s 41 0) in
-    let n = measured c (getD s 52 0) p f in
+    let t = counted e (getD s takenWord 0) in
+    let a = counted e (getD s answeredWord 0) in
+    let n = measured c (getD s descsWord 0) p f in
     let o = leaves (steppedOn s mem (w .backing) (w .chain) (w .stage)) in
     let x : phaseOf (rowAt (saved s t a n q)) ≡ q = phase-saved s t a n q (g .words-long) in
     let y : atHand o ≡ held q =
     at-hand-on o (rw (length-saved s t a n q) (g .words-long)) (stays s mem (w .backing) (w .chain) (w .stage) b g m) ∙ ap held x in
-    rw (at-hand-on w (g .words-long) (g .enabled), x, gives-two (w .chain) (w .stage) f p q, heads-answered (gives p), y) (conserve c (getD s 40 0) (w .chain) (w .stage) p f)
+    rw (at-hand-on w (g .words-long) (g .enabled), x, gives-two (w .chain) (w .stage) f p q, heads-answered (gives p), y) (conserve c (getD s takenWord 0) (w .chain) (w .stage) p f)
 
 -- one step, on the words
 account-step : (w : World) (mem : List ℕ) → ((i : ℕ) → getD mem i 0 < 256) → Kept w
@@ -185,7 +184,7 @@ at-hand-off w f =
     on (λ (l : List ℕ). l ≡ []) (ltb (length (w .state)) stateWords) (λ e. refl)
     (λ e. on (λ (l : List ℕ). l ≡ []) (eqb (level (w .state)) 3) (λ h. f (ltb-false (length (w .state)) stateWords e) (eqb-true (level (w .state)) 3 h)) (λ h. refl))
 
-at-hand-tag : (w : World) (n : ℕ) → getD (w .state) 0 0 ≡ n → (n ≡ 3 → ⊥) → atHand w ≡ []
+at-hand-tag : (w : World) (n : ℕ) → getD (w .state) levelWord 0 ≡ n → (n ≡ 3 → ⊥) → atHand w ≡ []
 at-hand-tag w n e f = at-hand-off w (λ l h. absurd (f (sym e ∙ level-tag (w .state) h)))
 
 at-hand-level : (w : World) (n : ℕ) → level (w .state) ≡ n → (n ≡ 3 → ⊥) → atHand w ≡ []
@@ -210,8 +209,7 @@ account-memory w ws m =
     (λ e. on P (eqb (memoryCode m ws) 0)
     (λ f. rw (
       heads-dropped (atHand w),
-      at-hand-tag (with-state w (put (w .state) 0 (1 ∷ m ∷ length ws / 3 ∷ ws))) 1
-          (put-in (w .state) 0 (1 ∷ m ∷ length ws / 3 ∷ ws) 0 (omega arith) (omega (arith, ltb-false (length (w .state)) stateWords e))) (λ z. omega arith),
+      at-hand-tag (with-state w (memorySet (w .state) ws m)) 1 (memory-tag (w .state) ws m (ltb-false (length (w .state)) stateWords e)) (λ z. omega arith),
     ))
     (λ f. rw f (append-nil (atHand w))))
 

@@ -16,7 +16,7 @@ use Rattle.model.proofs.Tests.{on}
 use borrow.Author.Tests.{ltb-false, eqb-true}
 use Rattle.guarantees.proofs.Open.{locked}
 use Rattle.guarantees.proofs.Reached.{Kept}
-use Rattle.words.specs.Layout.{stateWords, rowAt, phaseOf, configAt, mapWords, level}
+use Rattle.words.specs.Layout.{stateWords, rowAt, phaseOf, configAt, mapWords, level, memLenWord, startWord, sectorsWord, roWord}
 use Rattle.device.specs.Turn.{cfgOf, stateOf}
 use Rattle.hostiledisk.specs.Calls.{Called, stepped, steppedOn, Going, hdStep, isBroken, longEnough}
 use Rattle.guarantees.specs.History.{Call, memory, disk, enable, reset, step as stepOver, World, ran, left as leaves, run, wanted, written, writtenIn, DiskNow, DiskIs}
@@ -47,13 +47,13 @@ unfolding apply
 nothing-wrote d n b = refl
 
 stepped-wrote : (w : World) (mem : List ℕ)
-    → part (getD (w .state) 27 0) (512 * getD (w .state) 28 0) (steppedOn (w .state) mem (w .backing) (w .chain) (w .stage) .backing)
+    → part (getD (w .state) startWord 0) (512 * getD (w .state) sectorsWord 0) (steppedOn (w .state) mem (w .backing) (w .chain) (w .stage) .backing)
     ≡ apply (diskStores (effect (w .chain) (w .stage) (phaseOf (rowAt (w .state))) (part (wanted (w .state) (w .chain) .at) (wanted (w .state) (w .chain) .len) mem)))
-    (part (getD (w .state) 27 0) (512 * getD (w .state) 28 0) (w .backing))
+    (part (getD (w .state) startWord 0) (512 * getD (w .state) sectorsWord 0) (w .backing))
 unfolding steppedOn stepped step stepWith configAt
 stepped-wrote w mem =
     disk-effect (effect (w .chain) (w .stage) (phaseOf (rowAt (w .state))) (part (wanted (w .state) (w .chain) .at) (wanted (w .state) (w .chain) .len) mem))
-    (getD (w .state) 27 0) (512 * getD (w .state) 28 0) (w .backing)
+    (getD (w .state) startWord 0) (512 * getD (w .state) sectorsWord 0) (w .backing)
 
 wrote-call : (d n : ℕ) (w : World) (c : Call) → DiskNow d n w c → part d n (ran w c .backing) ≡ apply (written w c) (part d n (w .backing))
 unfolding ran written DiskNow hdStep
@@ -72,7 +72,7 @@ wrote-call d n w (stepOver mem) k =
     (wrote-pick d n b (eqb (level s) 3) _ _ _ _
     (wrote-pick d n b (isBroken (phaseOf (rowAt s))) _ _ _ _ u
     (wrote-pick d n b (longEnough s (length mem) (length b) (length (w .chain)) (length (w .stage))) _ _ _ _
-    (wrote-pick d n b (ready (getD s 1 0) (w .chain) (phaseOf (rowAt s))) _ _ _ _ x u) u))
+    (wrote-pick d n b (ready (getD s memLenWord 0) (w .chain) (phaseOf (rowAt s))) _ _ _ _ x u) u))
     u)
 
 -- over every history: the disk is what the accepted writes make of it, in the order of the calls that carried them out
@@ -103,7 +103,7 @@ read-back at a k bs xs m h l s =
     ∙ (sym (part-part at a (length bs) k (put m at bs) l) ∙ ap (part a k) (part-put m at (length bs) bs refl h))
 
 -- on a read-only disk that set-up and steps made, no call writes to the disk
-pub read-only : (w : World) (c : Call) → Kept w → (getD (w .state) 29 0 ≡ 0 → ⊥) → written w c ≡ []
+pub read-only : (w : World) (c : Call) → Kept w → (getD (w .state) roWord 0 ≡ 0 → ⊥) → written w c ≡ []
 unfolding written
 read-only w (memory words m) k n = refl
 read-only w (disk start sectors ro id backing) k n = refl
@@ -115,8 +115,8 @@ read-only w (stepOver mem) k n =
     (λ a. on P (eqb (level (w .state)) 3)
     (λ b. on P (isBroken (phaseOf (rowAt (w .state)))) (λ c. refl)
     (λ c. on P (longEnough (w .state) (length mem) (length (w .backing)) (length (w .chain)) (length (w .stage)))
-    (λ d. on P (ready (getD (w .state) 1 0) (w .chain) (phaseOf (rowAt (w .state))))
-    (λ e. locked (getD (w .state) 29 0) (w .chain) (w .stage) (part (wanted (w .state) (w .chain) .at) (wanted (w .state) (w .chain) .len) mem) (phaseOf (rowAt (w .state))) n
+    (λ d. on P (ready (getD (w .state) memLenWord 0) (w .chain) (phaseOf (rowAt (w .state))))
+    (λ e. locked (getD (w .state) roWord 0) (w .chain) (w .stage) (part (wanted (w .state) (w .chain) .at) (wanted (w .state) (w .chain) .len) mem) (phaseOf (rowAt (w .state))) n
     (k (ltb-false (length (w .state)) stateWords a) (eqb-true (level (w .state)) 3 b) .open-disk))
     (λ e. refl))
     (λ d. refl)))

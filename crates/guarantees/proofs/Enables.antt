@@ -6,21 +6,20 @@ use mathlib.Core.Path.{_≡_, refl, sym, ap, _∙_}
 use native.Mathlib.Omega.{arith}
 use lib.Dec.{leb, ltb, eqb}
 use lib.ListN.{getD, length, set, length-set}
-use native.Mathlib.Nat.{zero-add}
 use lib.Seq.{getD-set-same, getD-set-other}
-use Rattle.model.proofs.Lists.{Disjoint, first, after, put-below, put-in, put-cons, put-one, part-put, part-put-other}
+use Rattle.model.proofs.Lists.{Disjoint, after, put-below, put-in, put-one, part-put, part-put-other, length-put}
 use borrow.Author.Tests.{lt-ltb, le-leb, leb-false, ltb-false, eqb-true, eqb-false, leb-true}
 use Rattle.model.specs.Pick.{pick, both}
 use Rattle.model.specs.Bytes.{put, part, word}
 use Rattle.model.specs.Request.{diskCode}
 use Rattle.model.proofs.Words.{word-below}
-use Rattle.model.specs.Memory.{Region, regions, sound, locate, regionsCode, memoryCode}
+use Rattle.model.specs.Memory.{Region, regions, sound, locate, memoryCode, regionsMax}
 use Rattle.model.specs.Ring.{areas, placed, sizeOk, aligned, entangled}
 use Rattle.model.specs.Sane.{sane}
-use Rattle.model.proofs.Tests.{on, both-l, both-split, told}
-use Rattle.model.proofs.Memory.{locate-slice, memory-sound}
-use Rattle.words.specs.Layout.{stateWords, rowOf, rowWords, rowAt, phaseOf, mapWords, memoryOk, diskOk, queueOk, lentOk, tagsOk, phaseOk, enabledOk, level}
-use Rattle.hostiledisk.specs.Calls.{Set, hdMemory, flag, diskSet, hdDisk, queueWords, queueSet, enabledWith, hdEnableAt}
+use Rattle.model.proofs.Tests.{on, both-l, told}
+use Rattle.model.proofs.Memory.{locate-slice, mapped}
+use Rattle.words.specs.Layout.{stateWords, rowOf, rowWords, rowAt, phaseOf, mapWords, memoryOk, diskOk, queueOk, lentOk, tagsOk, phaseOk, enabledOk, level, levelWord, memLenWord, regionsWord, startWord, sectorsWord, roWord, backingLenWord, id2Word, sizeWord, regionsFrom}
+use Rattle.hostiledisk.specs.Calls.{Set, memorySet, hdMemory, flag, diskSet, hdDisk, queueWords, queueSet, enabledWith, hdEnableAt}
 use Rattle.hostiledisk.proofs.Laws.{memory-ok, level-two}
 use Rattle.guarantees.proofs.Good.{both-true}
 use Rattle.guarantees.proofs.Stays.{tower-all}
@@ -71,36 +70,36 @@ two-parts true false true d e f h = (refl, refl)
 
 level-two-parts : (s : List ℕ) → level s ≡ 2 → (memoryOk s ≡ true) × (diskOk s ≡ true)
 unfolding level
-level-two-parts s h = two-parts (memoryOk s) (eqb (getD s 0 0) 1) (diskOk s) (eqb (getD s 0 0) 2) (eqb (getD s 0 0) 3) (enabledOk s) h
+level-two-parts s h = two-parts (memoryOk s) (eqb (getD s levelWord 0) 1) (diskOk s) (eqb (getD s levelWord 0) 2) (eqb (getD s levelWord 0) 3) (enabledOk s) h
 
-queue-tag : (s : List ℕ) (q : Queue) (c g start : ℕ) → stateWords ≤ length s → getD (queueSet s q c g start) 0 0 ≡ 3
+queue-tag : (s : List ℕ) (q : Queue) (c g start : ℕ) → stateWords ≤ length s → getD (queueSet s q c g start) levelWord 0 ≡ 3
 unfolding queueSet
-queue-tag s q c g start l = put-below (set s 0 3) 34 _ 0 (omega arith) ∙ getD-set-same s 0 3 0 (omega arith)
+queue-tag s q c g start l = put-below (set s levelWord 3) sizeWord _ levelWord (omega arith) ∙ getD-set-same s levelWord 3 0 (omega arith)
 
 module _ (s : List ℕ) (q : Queue) (c g start : ℕ) (l : stateWords ≤ length s) where
-  o : (i : ℕ) → 0 < i → i < 34 → getD (queueSet s q c g start) i 0 ≡ getD s i 0
+  o : (i : ℕ) → 0 < i → i < sizeWord → getD (queueSet s q c g start) i 0 ≡ getD s i 0
   o i h u = queue-other s q c g start i h u
 
-  memory-enabled : getD s 2 0 ≤ 8 → memoryOk (queueSet s q c g start) ≡ memoryOk s
+  memory-enabled : memoryOk (queueSet s q c g start) ≡ memoryOk s
   unfolding memoryOk
-  memory-enabled h = rw (o 2 (omega arith) (omega arith), o 1 (omega arith) (omega arith), queue-part s q c g start (3 * getD s 2 0) (omega arith))
+  memory-enabled = rw (o regionsWord (omega arith) (omega arith), o memLenWord (omega arith) (omega arith), queue-part s q c g start (3 * getD s regionsWord 0))
 
   disk-enabled : diskOk (queueSet s q c g start) ≡ diskOk s
   unfolding diskOk
   disk-enabled =
-      rw (o 27 (omega arith) (omega arith), o 28 (omega arith) (omega arith), o 30 (omega arith) (omega arith), o 29 (omega arith) (omega arith), o 33 (omega arith) (omega arith))
+      rw (o startWord (omega arith) (omega arith), o sectorsWord (omega arith) (omega arith), o backingLenWord (omega arith) (omega arith), o roWord (omega arith) (omega arith), o id2Word (omega arith) (omega arith))
 
-  w : (j : ℕ) → j < 19 → getD (queueSet s q c g start) (34 + j) 0 ≡ getD (queueWords q c g start) j 0
+  w : (j : ℕ) → j < 19 → getD (queueSet s q c g start) (sizeWord + j) 0 ≡ getD (queueWords q c g start) j 0
   w j u = queue-word s q c g start j l u
 
-  queue-enabled : Inside (getD s 1 0) q → 2 * q .size ≤ c → 1048576 ≤ g → start < 65536 → queueOk (queueSet s q c g start) ≡ true
+  queue-enabled : Inside (getD s memLenWord 0) q → 2 * q .size ≤ c → 1048576 ≤ g → start < 65536 → queueOk (queueSet s q c g start) ≡ true
   unfolding queueOk lentOk rowWords
   queue-enabled i hc hg hs =
-      rw (w 0 (omega arith), w 1 (omega arith), w 2 (omega arith), w 3 (omega arith), w 4 (omega arith), w 5 (omega arith), w 6 (omega arith), w 7 (omega arith), w 18 (omega arith), o 1 (omega arith) (omega arith))
+      rw (w 0 (omega arith), w 1 (omega arith), w 2 (omega arith), w 3 (omega arith), w 4 (omega arith), w 5 (omega arith), w 6 (omega arith), w 7 (omega arith), w 18 (omega arith), o memLenWord (omega arith) (omega arith))
       (both-true (sizeOk (q .size)) _ (i .size-ok)
-      (both-true (leb (q .desc + 16 * q .size) (getD s 1 0)) _ (le-leb (q .desc + 16 * q .size) (getD s 1 0) (i .desc-in))
-      (both-true (leb (q .avail + (6 + 2 * q .size)) (getD s 1 0)) _ (le-leb (q .avail + (6 + 2 * q .size)) (getD s 1 0) (i .avail-in))
-      (both-true (leb (q .used + (6 + 8 * q .size)) (getD s 1 0)) _ (le-leb (q .used + (6 + 8 * q .size)) (getD s 1 0) (i .used-in))
+      (both-true (leb (q .desc + 16 * q .size) (getD s memLenWord 0)) _ (le-leb (q .desc + 16 * q .size) (getD s memLenWord 0) (i .desc-in))
+      (both-true (leb (q .avail + (6 + 2 * q .size)) (getD s memLenWord 0)) _ (le-leb (q .avail + (6 + 2 * q .size)) (getD s memLenWord 0) (i .avail-in))
+      (both-true (leb (q .used + (6 + 8 * q .size)) (getD s memLenWord 0)) _ (le-leb (q .used + (6 + 8 * q .size)) (getD s memLenWord 0) (i .used-in))
       (both-true (leb (2 * q .size) c) _ (le-leb (2 * q .size) c hc)
       (both-true (leb 1048576 g) _ (le-leb 1048576 g hg) (both-true (ltb start 65536) _ (lt-ltb start 65536 hs) (both-true (ltb start 65536) _ (lt-ltb start 65536 hs) (le-leb 0 (q .size) (omega arith))))))))))
 
@@ -108,13 +107,13 @@ module _ (s : List ℕ) (q : Queue) (c g start : ℕ) (l : stateWords ≤ length
   unfolding phaseOk tagsOk sane rowWords rowOf
   phase-enabled = rw (w 8 (omega arith), queue-phase s q c g start l)
 
-  pub enables : level s ≡ 2 → getD s 2 0 ≤ 8 → Inside (getD s 1 0) q → 2 * q .size ≤ c → 1048576 ≤ g → start < 65536 → level (queueSet s q c g start) ≡ 3
+  pub enables : level s ≡ 2 → Inside (getD s memLenWord 0) q → 2 * q .size ≤ c → 1048576 ≤ g → start < 65536 → level (queueSet s q c g start) ≡ 3
   unfolding level enabledOk
-  enables h n i hc hg hs =
+  enables h i hc hg hs =
       let p = level-two-parts s h in
       let tag = queue-tag s q c g start l in
-      tower-all (memoryOk (queueSet s q c g start)) (eqb (getD (queueSet s q c g start) 0 0) 1) (diskOk (queueSet s q c g start)) (eqb (getD (queueSet s q c g start) 0 0) 2)
-      (eqb (getD (queueSet s q c g start) 0 0) 3) (enabledOk (queueSet s q c g start)) (memory-enabled n ∙ p .0) (rw tag) (disk-enabled ∙ p .1) (rw tag) (rw tag)
+      tower-all (memoryOk (queueSet s q c g start)) (eqb (getD (queueSet s q c g start) levelWord 0) 1) (diskOk (queueSet s q c g start)) (eqb (getD (queueSet s q c g start) levelWord 0) 2)
+      (eqb (getD (queueSet s q c g start) levelWord 0) 3) (enabledOk (queueSet s q c g start)) (memory-enabled ∙ p .0) (rw tag) (disk-enabled ∙ p .1) (rw tag) (rw tag)
       (both-true (queueOk (queueSet s q c g start)) _ (queue-enabled i hc hg hs) phase-enabled)
 
 -- a refusal of the areas is no 0
@@ -126,7 +125,7 @@ placed-code q (At x) (At y) Nothing t n e h = let k : _≡_ {A = ℕ} n 27 = cc 
 placed-code q (At x) (At y) (At z) true n e h = let k : _≡_ {A = ℕ} n 28 = cc in omega arith
 placed-code q (At x) (At y) (At z) false n e h = let k : _≡_ {A = ℕ} 0 1 = cc in omega arith
 
-refused-code : (rs : List Region) (size desc avail used n : ℕ) → areas rs size desc avail used ≡ Refused n → n ≡ 0 → ⊥
+pub refused-code : (rs : List Region) (size desc avail used n : ℕ) → areas rs size desc avail used ≡ Refused n → n ≡ 0 → ⊥
 unfolding areas
 refused-code rs size desc avail used n =
     let P : Areas → Type 0 = λ x. x ≡ Refused n → n ≡ 0 → ⊥ in
@@ -147,7 +146,7 @@ enabled-areas s c g start (Placed q) size desc avail used l h e =
     on P (ltb c (2 * q .size)) (λ f z. absurd (omega arith))
     (λ f. on P (ltb g 1048576) (λ f z. absurd (omega arith))
     (λ k. on P (leb 65536 start) (λ f z. absurd (omega arith))
-    (λ t z. enables s q c g start l h (m .few) (areas-inside (getD s 1 0) (regions (mapWords s)) size desc avail used q (m .sound-map) e) (ltb-false c (2 * q .size) f) (ltb-false g 1048576 k) (leb-false 65536 start t))))
+    (λ t z. enables s q c g start l h (areas-inside (getD s memLenWord 0) (regions (mapWords s)) size desc avail used q (m .sound-map) e) (ltb-false c (2 * q .size) f) (ltb-false g 1048576 k) (leb-false 65536 start t))))
 
 pub enable-enables : (s : List ℕ) (size desc avail used c g start : ℕ) → hdEnableAt s size desc avail used c g start .code ≡ 0
     → level (hdEnableAt s size desc avail used c g start .state) ≡ 3
@@ -159,37 +158,20 @@ enable-enables s size desc avail used c g start =
     (λ f. enabled-areas s c g start (areas (regions (mapWords s)) size desc avail used) size desc avail used (ltb-false (length s) stateWords e) (eqb-true (level s) 2 f) refl)
     (λ f z. absurd (omega arith)))
 
--- a map that set-up accepts: whole regions, 1 to 8
-memory-words : (m : ℕ) (ws : List ℕ) → memoryCode m ws ≡ 0 → (length ws % 3 ≡ 0) × (1 ≤ length ws / 3) × (length ws / 3 ≤ 8)
-unfolding memoryCode
-memory-words m ws e = go (both (eqb (length ws % 3) 0) (both (leb 1 (length ws / 3)) (leb (length ws / 3) 8))) refl e
-  where
-    go : (b : Bool) → both (eqb (length ws % 3) 0) (both (leb 1 (length ws / 3)) (leb (length ws / 3) 8)) ≡ b
-        → pick b (regionsCode m [] (regions ws)) 20 ≡ 0 → (length ws % 3 ≡ 0) × (1 ≤ length ws / 3) × (length ws / 3 ≤ 8)
-    go true t e =
-        let a = both-split (eqb (length ws % 3) 0) (both (leb 1 (length ws / 3)) (leb (length ws / 3) 8)) t in
-        let b = both-split (leb 1 (length ws / 3)) (leb (length ws / 3) 8) (a .1) in
-        (omega told, omega told, omega told)
-    go false t e = absurd (omega arith)
-
-put-at : (s xs : List ℕ) (j : ℕ) → j < length xs → length xs ≤ length s → getD (put s 0 xs) j 0 ≡ getD xs j 0
-put-at s xs j h l = rw zero-add at (put-in s 0 xs j h (omega arith))
-
-part-after : (s : List ℕ) (m n : ℕ) (ws : List ℕ) → 3 + length ws ≤ length s → part 3 (length ws) (put s 0 (1 ∷ m ∷ n ∷ ws)) ≡ ws
-part-after s m n ws l =
-    rw (put-cons s 0 1 (m ∷ n ∷ ws), put-cons (set s 0 1) 1 m (n ∷ ws), put-cons (set (set s 0 1) 1 m) 2 n ws)
-    (part-put (set (set (set s 0 1) 1 m) 2 n) 3 (length ws) ws refl (simp length-set (omega arith)))
-
 -- hd_memory answered 0: memory is registered
-memory-level : (s ws : List ℕ) (m : ℕ) → stateWords ≤ length s → memoryCode m ws ≡ 0 → level (put s 0 (1 ∷ m ∷ length ws / 3 ∷ ws)) ≡ 1
-unfolding level memoryOk
+memory-level : (s ws : List ℕ) (m : ℕ) → stateWords ≤ length s → memoryCode m ws ≡ 0 → level (memorySet s ws m) ≡ 1
+unfolding level memoryOk memorySet
 memory-level s ws m l e =
-    let few = memory-words m ws e in
-    let xs : List ℕ = 1 ∷ m ∷ length ws / 3 ∷ ws in
-    let at : (j : ℕ) → j < length xs → getD (put s 0 xs) j 0 ≡ getD xs j 0 = λ j h. put-at s xs j h (omega arith) in
-    let n : 3 * (length ws / 3) ≡ length ws = omega arith in
-    let p : part 3 (length ws) (put s 0 xs) ≡ ws = part-after s m (length ws / 3) ws (omega arith) in
-    rw (at 0 (omega arith), at 1 (omega arith), at 2 (omega arith), n, p, le-leb 1 (length ws / 3) (omega arith), le-leb (length ws / 3) 8 (omega arith), memory-sound m ws e)
+    let few = mapped m ws e in
+    let xs : List ℕ = 1 ∷ m ∷ length ws / 3 ∷ [] in
+    let s₂ = put s levelWord xs in
+    let k : stateWords ≤ length s₂ = rw (length-put s levelWord xs) l in
+    let at : (j : ℕ) → j < 3 → getD (put s₂ regionsFrom ws) (levelWord + j) 0 ≡ getD xs j 0 =
+    λ j h. put-below s₂ regionsFrom ws (levelWord + j) (omega arith) ∙ put-in s levelWord xs j h (omega arith) in
+    let n : 3 * (length ws / 3) ≡ length ws = omega (arith, few .threes) in
+    let r : regionsFrom + length ws ≤ length s₂ = omega (arith, few .few) in
+    let p : part regionsFrom (length ws) (put s₂ regionsFrom ws) ≡ ws = part-put s₂ regionsFrom (length ws) ws refl r in
+    rw (at 0 (omega arith), at 1 (omega arith), at 2 (omega arith), n, p, le-leb 1 (length ws / 3) (few .some), le-leb (length ws / 3) regionsMax (few .few), few .each-sound)
 
 pub memory-registers : (s ws : List ℕ) (m : ℕ) → hdMemory s ws m .code ≡ 0 → level (hdMemory s ws m .state) ≡ 1
 unfolding hdMemory
@@ -205,7 +187,7 @@ low-parts true b c d e f h = refl
 
 level-some : (s : List ℕ) → 1 ≤ level s → memoryOk s ≡ true
 unfolding level
-level-some s h = low-parts (memoryOk s) (eqb (getD s 0 0) 1) (diskOk s) (eqb (getD s 0 0) 2) (eqb (getD s 0 0) 3) (enabledOk s) h
+level-some s h = low-parts (memoryOk s) (eqb (getD s levelWord 0) 1) (diskOk s) (eqb (getD s levelWord 0) 2) (eqb (getD s levelWord 0) 3) (enabledOk s) h
 
 flag-low : (ro : ℕ) → flag ro ≤ 1
 flag-low ro = on (λ (n : ℕ). n ≤ 1) (eqb ro 0) (λ e. omega arith) (λ e. omega arith)
@@ -218,20 +200,20 @@ disk-level s start sectors ro id b l h e f =
     let few = m .few in
     let some = m .some in
     let xs : List ℕ = start ∷ sectors ∷ flag ro ∷ b ∷ word 8 0 id ∷ word 8 8 id ∷ word 4 16 id ∷ [] in
-    let s₂ = set s 0 2 in
-    let k : stateWords ≤ length s₂ = rw (length-set s 0 2) l in
-    let at : (j : ℕ) → j < 7 → getD (put s₂ 27 xs) (27 + j) 0 ≡ getD xs j 0 = λ j u. put-in s₂ 27 xs j u (omega arith) in
-    let o : (i : ℕ) → 0 < i → i < 27 → getD (put s₂ 27 xs) i 0 ≡ getD s i 0 = λ i u v. put-below s₂ 27 xs i v ∙ getD-set-other s 0 i 2 0 (λ z. omega arith) in
-    let t : getD (put s₂ 27 xs) 0 0 ≡ 2 = put-below s₂ 27 xs 0 (omega arith) ∙ getD-set-same s 0 2 0 (omega arith) in
-    let p : part 3 (3 * getD s 2 0) (put s₂ 27 xs) ≡ part 3 (3 * getD s 2 0) s =
-    part-put-other s₂ 3 (3 * getD s 2 0) 27 xs (first (omega arith)) ∙ (ap (part 3 (3 * getD s 2 0)) (sym (put-one s 0 2)) ∙ part-put-other s 3 (3 * getD s 2 0) 0 (2 ∷ []) (after (omega arith))) in
+    let s₂ = set s levelWord 2 in
+    let k : stateWords ≤ length s₂ = rw (length-set s levelWord 2) l in
+    let at : (j : ℕ) → j < 7 → getD (put s₂ startWord xs) (startWord + j) 0 ≡ getD xs j 0 = λ j u. put-in s₂ startWord xs j u (omega arith) in
+    let o : (i : ℕ) → 0 < i → i < startWord → getD (put s₂ startWord xs) i 0 ≡ getD s i 0 = λ i u v. put-below s₂ startWord xs i v ∙ getD-set-other s levelWord i 2 0 (λ z. omega arith) in
+    let t : getD (put s₂ startWord xs) levelWord 0 ≡ 2 = put-below s₂ startWord xs levelWord (omega arith) ∙ getD-set-same s levelWord 2 0 (omega arith) in
+    let p : part regionsFrom (3 * getD s regionsWord 0) (put s₂ startWord xs) ≡ part regionsFrom (3 * getD s regionsWord 0) s =
+    part-put-other s₂ regionsFrom (3 * getD s regionsWord 0) startWord xs (after (omega arith)) ∙ (ap (part regionsFrom (3 * getD s regionsWord 0)) (sym (put-one s levelWord 2)) ∙ part-put-other s regionsFrom (3 * getD s regionsWord 0) levelWord (2 ∷ []) (after (omega arith))) in
     rw (
       t,
-      o 2 (omega arith) (omega arith),
-      o 1 (omega arith) (omega arith),
+      o regionsWord (omega arith) (omega arith),
+      o memLenWord (omega arith) (omega arith),
       p,
-      le-leb 1 (getD s 2 0) some,
-      le-leb (getD s 2 0) 8 few,
+      le-leb 1 (getD s regionsWord 0) some,
+      le-leb (getD s regionsWord 0) regionsMax few,
       m .sound-map,
       at 0 (omega arith),
       at 1 (omega arith),

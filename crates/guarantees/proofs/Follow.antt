@@ -14,12 +14,11 @@ use Rattle.model.specs.Chain.{descAt, tested, held, keeps}
 use Rattle.model.specs.Step.{Cfg, State, Out, step, stepWith, fetched, next, chained, measured, staged, effect, counted, ends, left, shifted, diskStores, codeOf, codeAfter, memStores, apply, want, nowhere}
 use Rattle.model.proofs.Tests.{on}
 use Rattle.model.proofs.Lists.{below, length-put}
-use Rattle.words.specs.Layout.{stateWords, rowAt, phaseOf, configAt, mapWords, saved, level}
+use Rattle.words.specs.Layout.{stateWords, rowAt, phaseOf, configAt, mapWords, saved, level, memLenWord, startWord, sectorsWord, roWord, backingLenWord, id0Word, id1Word, id2Word, sizeWord, descAreaWord, availAreaWord, usedAreaWord, chainLenWord, stageLenWord, takenWord}
 use Rattle.words.proofs.Saved.{phase-saved, taken-saved, answered-saved, descs-saved, others-saved, length-saved}
 use Rattle.device.specs.Turn.{cfgOf, stateOf}
 use Rattle.device.specs.declared.Config.{Config}
 use Rattle.hostiledisk.specs.Calls.{Called, told, seenOf, shown, shownMore, statusWords, hdStatus, hdStep, untouched, isBroken, longEnough, stepped, steppedOn, Going}
-use Rattle.hostiledisk.proofs.Laws.{level-three}
 use Rattle.guarantees.specs.History.{Call, step as stepOver, World, ran, left as leaves, run, steps}
 use Rattle.guarantees.specs.Good.{Made}
 use Rattle.guarantees.specs.Follow.{Matches, model, found}
@@ -68,26 +67,26 @@ length-staged chain stage (Broken reason head count at) f = refl
 config-saved : (s : List ℕ) (t a n : ℕ) (p : Phase) → configAt (saved s t a n p) ≡ configAt s
 unfolding configAt
 config-saved s t a n p =
-    let w : (i : ℕ) → i < 40 → getD (saved s t a n p) i 0 ≡ getD s i 0 = λ i u. others-saved s t a n p i (below u) in
+    let w : (i : ℕ) → i < takenWord → getD (saved s t a n p) i 0 ≡ getD s i 0 = λ i u. others-saved s t a n p i (below u) in
     rw (
-      w 34 (omega arith),
-      w 35 (omega arith),
-      w 36 (omega arith),
-      w 37 (omega arith),
-      w 27 (omega arith),
-      w 28 (omega arith),
-      w 29 (omega arith),
-      w 31 (omega arith),
-      w 32 (omega arith),
-      w 33 (omega arith),
-      w 1 (omega arith),
+      w sizeWord (omega arith),
+      w descAreaWord (omega arith),
+      w availAreaWord (omega arith),
+      w usedAreaWord (omega arith),
+      w startWord (omega arith),
+      w sectorsWord (omega arith),
+      w roWord (omega arith),
+      w id0Word (omega arith),
+      w id1Word (omega arith),
+      w id2Word (omega arith),
+      w memLenWord (omega arith),
     )
 
 long-saved : (s : List ℕ) (t a n : ℕ) (p : Phase) (m b c g : ℕ) → longEnough (saved s t a n p) m b c g ≡ longEnough s m b c g
 unfolding longEnough
 long-saved s t a n p m b c g =
-    let w : (i : ℕ) → i < 40 → getD (saved s t a n p) i 0 ≡ getD s i 0 = λ i u. others-saved s t a n p i (below u) in
-    rw (w 1 (omega arith), w 30 (omega arith), w 38 (omega arith), w 39 (omega arith))
+    let w : (i : ℕ) → i < takenWord → getD (saved s t a n p) i 0 ≡ getD s i 0 = λ i u. others-saved s t a n p i (below u) in
+    rw (w memLenWord (omega arith), w backingLenWord (omega arith), w chainLenWord (omega arith), w stageLenWord (omega arith))
 
 -- a queue that set-up and steps made, and that is not broken, makes the step
 goes-on : (w : World) (mem : List ℕ) → stateWords ≤ length (w .state) → level (w .state) ≡ 3 → Made (w .state) (w .chain)
@@ -127,7 +126,6 @@ matches-stepped c n w s mem backing chain stage b l m nb =
     let d = o .state .descs in
     let p = o .state .phase in
     let z = lengths c s mem backing chain stage in
-    let few = level-three (w .state) (m .enabled) .memory .few in
     let e : steppedOn (w .state) mem (w .backing) (w .chain) (w .stage) ≡ stepped (w .state) o = stepped-model c n w s mem backing chain stage m in
     let g : Going (w .state) (phaseOf (rowAt (w .state))) (length mem) (length (w .backing)) (w .chain) (length (w .stage)) =
     record {
@@ -147,7 +145,7 @@ matches-stepped c n w s mem backing chain stage b l m nb =
             made = rw e at (made-step (w .state) mem (w .backing) (w .chain) (w .stage) b g (m .made));
             slices-long = long-saved (w .state) t a d p n (length (o .backing)) (length (o .chain)) (length (o .stage))
                 ∙ rw (z .0, z .1, z .2, ← (m .backing-is), ← (m .chain-is), ← (m .stage-is)) (m .slices-long);
-            cfg-is = rw (config-saved (w .state) t a d p, map-saved (w .state) t a d p few) (m .cfg-is);
+            cfg-is = rw (config-saved (w .state) t a d p, map-saved (w .state) t a d p) (m .cfg-is);
             taken-is = taken-saved (w .state) t a d p (m .words-long);
             answered-is = answered-saved (w .state) t a d p (m .words-long);
             descs-is = descs-saved (w .state) t a d p (m .words-long);

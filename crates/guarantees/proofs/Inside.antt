@@ -10,7 +10,7 @@ use Rattle.model.specs.Memory.{Region, regions}
 use Rattle.model.specs.Step.{Cfg, Span, want, left, lacks, spans, writables, buffer, usedAt}
 use Rattle.model.proofs.Memory.{InOne, Within, here, later}
 use Rattle.model.proofs.Step.{spans-turn, spans-end}
-use Rattle.words.specs.Layout.{rowAt, phaseOf, configAt, mapWords, level}
+use Rattle.words.specs.Layout.{rowAt, phaseOf, configAt, mapWords, level, sectorsWord, takenWord, answeredWord}
 use Rattle.device.specs.Turn.{cfgOf}
 use Rattle.hostiledisk.proofs.Laws.{level-three}
 use Rattle.guarantees.specs.History.{wanted, touched}
@@ -65,7 +65,7 @@ one-range rs c t chain sectors (Broken reason head count at) d a h g = none refl
 pub wanted-region : (s chain : List ℕ) → level s ≡ 3 → Made s chain → OneRange (regions (mapWords s)) (wanted s chain)
 unfolding configAt
 wanted-region s chain h m =
-    one-range (regions (mapWords s)) (cfgOf (configAt s) (mapWords s)) (getD s 40 0) chain (getD s 28 0) (phaseOf (rowAt s)) (m .desc-area) (m .avail-area)
+    one-range (regions (mapWords s)) (cfgOf (configAt s) (mapWords s)) (getD s takenWord 0) chain (getD s sectorsWord 0) (phaseOf (rowAt s)) (m .desc-area) (m .avail-area)
     (level-three s h .queue .size-some) (m .good)
 
 unfoldable pub AllIn : List Region → List Span → Type 0
@@ -96,7 +96,7 @@ touched-all rs q a chain sectors (Publish k got) u h g =
 touched-all rs q a chain sectors (Broken reason head count at) u h g = tt
 
 -- 3. the ranges that may be written
-pub touched-regions : (s chain : List ℕ) → level s ≡ 3 → Made s chain → AllIn (regions (mapWords s)) (touched (configAt s .queue) (getD s 41 0) chain (phaseOf (rowAt s)))
+pub touched-regions : (s chain : List ℕ) → level s ≡ 3 → Made s chain → AllIn (regions (mapWords s)) (touched (configAt s .queue) (getD s answeredWord 0) chain (phaseOf (rowAt s)))
 unfolding configAt
 touched-regions s chain h m =
-    touched-all (regions (mapWords s)) (configAt s .queue) (getD s 41 0) chain (getD s 28 0) (phaseOf (rowAt s)) (m .used-area) (level-three s h .queue .size-some) (m .good)
+    touched-all (regions (mapWords s)) (configAt s .queue) (getD s answeredWord 0) chain (getD s sectorsWord 0) (phaseOf (rowAt s)) (m .used-area) (level-three s h .queue .size-some) (m .good)

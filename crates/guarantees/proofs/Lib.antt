@@ -14,3 +14,4 @@ pub mod SetUp
 pub mod Contracts
 pub mod Follow
 pub mod Enables
+pub mod Held

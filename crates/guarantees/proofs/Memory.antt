@@ -17,7 +17,7 @@ use Rattle.model.specs.Step.{Effect, nothing, stores, answers, publishes, Span,
 use Rattle.model.proofs.Lists.{Apart, below, above, part-cong, put-apart}
 use Rattle.model.proofs.Step.{spans-turn, apply-append}
 use Rattle.model.proofs.Words.{length-bytes}
-use Rattle.words.specs.Layout.{stateWords, rowAt, phaseOf, level, configAt, mapWords, saved}
+use Rattle.words.specs.Layout.{stateWords, rowAt, phaseOf, level, configAt, mapWords, saved, memLenWord, sectorsWord, sizeWord, takenWord, answeredWord, descsWord}
 use Rattle.device.specs.Turn.{Fit, cfgOf, stateOf}
 use Rattle.device.specs.Fit.{HeaderFit, PayloadFit}
 use Rattle.device.proofs.Laws.{header-fit, payload-fit, answer-fit}
@@ -65,21 +65,21 @@ module _ (s m₁ m₂ backing chain stage : List ℕ) (l : length m₁ ≡ lengt
       (same-pick (eqb (level s) 3) _ _ _ _
       (same-pick (isBroken (phaseOf (rowAt s))) _ _ _ _ (u 3)
       (same-pick (longEnough s (length m₂) (length backing) (length chain) (length stage)) _ _ _ _
-      (same-pick (ready (getD s 1 0) chain (phaseOf (rowAt s))) _ _ _ _ same-stepped (u 4)) (u 4)))
+      (same-pick (ready (getD s memLenWord 0) chain (phaseOf (rowAt s))) _ _ _ _ same-stepped (u 4)) (u 4)))
       (u 4)))
 
 -- .. the range lies inside the slice
-in-slice : (s mem backing chain stage : List ℕ) (p : Phase) → Fit (configAt s) (getD s 40 0) (getD s 41 0) p (mapWords s) (length mem) (length backing) chain (length stage)
-    → want (cfgOf (configAt s) (mapWords s)) (getD s 40 0) chain p .at + want (cfgOf (configAt s) (mapWords s)) (getD s 40 0) chain p .len ≤ length mem
+in-slice : (s mem backing chain stage : List ℕ) (p : Phase) → Fit (configAt s) (getD s takenWord 0) (getD s answeredWord 0) p (mapWords s) (length mem) (length backing) chain (length stage)
+    → want (cfgOf (configAt s) (mapWords s)) (getD s takenWord 0) chain p .at + want (cfgOf (configAt s) (mapWords s)) (getD s takenWord 0) chain p .len ≤ length mem
 unfolding want configAt
 in-slice s mem backing chain stage Poll f = omega (arith, f .avail-in, f .mem-long)
-in-slice s mem backing chain stage Entry f = omega (arith, f .avail-in, f .mem-long, mod-lt (getD s 40 0) (f .size-some))
-in-slice s mem backing chain stage (Chain k cur) f = omega (arith, f .desc-in, f .mem-long, chain-ok (getD s 34 0) (getD s 28 0) k cur (f .sane-phase) .cur-in)
+in-slice s mem backing chain stage Entry f = omega (arith, f .avail-in, f .mem-long, mod-lt (getD s takenWord 0) (f .size-some))
+in-slice s mem backing chain stage (Chain k cur) f = omega (arith, f .desc-in, f .mem-long, chain-ok (getD s sizeWord 0) (getD s sectorsWord 0) k cur (f .sane-phase) .cur-in)
 in-slice s mem backing chain stage (Header k p got) f =
-    let g = header-fit (configAt s) (getD s 40 0) (getD s 41 0) (mapWords s) (length mem) (length backing) chain (length stage) k p got f in
+    let g = header-fit (configAt s) (getD s takenWord 0) (getD s answeredWord 0) (mapWords s) (length mem) (length backing) chain (length stage) k p got f in
     omega (arith, g .buffer-in, g .skip-in)
 in-slice s mem backing chain stage (Payload k p sector got) f =
-    let g = payload-fit (configAt s) (getD s 40 0) (getD s 41 0) (mapWords s) (length mem) (length backing) chain (length stage) k p sector got f in
+    let g = payload-fit (configAt s) (getD s takenWord 0) (getD s answeredWord 0) (mapWords s) (length mem) (length backing) chain (length stage) k p sector got f in
     omega (arith, g .buffer-in, g .skip-in)
 in-slice s mem backing chain stage (Answer k job got) f = omega arith
 in-slice s mem backing chain stage (Publish k got) f = omega arith
@@ -152,9 +152,9 @@ publish-apart : (at n i : ℕ) → Clear i (record { at = at; len = 2 } ∷ []) 
 unfolding Clear
 publish-apart at n i c = rw (length-bytes 2 n) (c .0)
 
-wall-phase : (s mem backing chain stage : List ℕ) (p : Phase) (i : ℕ) → Fit (configAt s) (getD s 40 0) (getD s 41 0) p (mapWords s) (length mem) (length backing) chain (length stage)
-    → Clear i (touched (configAt s .queue) (getD s 41 0) chain p)
-    → getD (step (cfgOf (configAt s) (mapWords s)) (stateOf (getD s 40 0) (getD s 41 0) (getD s 52 0) p) mem backing chain stage .mem) i 0 ≡ getD mem i 0
+wall-phase : (s mem backing chain stage : List ℕ) (p : Phase) (i : ℕ) → Fit (configAt s) (getD s takenWord 0) (getD s answeredWord 0) p (mapWords s) (length mem) (length backing) chain (length stage)
+    → Clear i (touched (configAt s .queue) (getD s answeredWord 0) chain p)
+    → getD (step (cfgOf (configAt s) (mapWords s)) (stateOf (getD s takenWord 0) (getD s answeredWord 0) (getD s descsWord 0) p) mem backing chain stage .mem) i 0 ≡ getD mem i 0
 unfolding touched step stepWith effect memStores apply
 wall-phase s mem backing chain stage Poll i f c = refl
 wall-phase s mem backing chain stage Entry i f c = refl
@@ -164,16 +164,16 @@ wall-phase s mem backing chain stage (Payload k p sector got) i f c =
     let o = cfgOf (configAt s) (mapWords s) in
     ap (λ (m : List ℕ). getD m i 0)
     (quiet-paid (ends k got (left chain p .len)) (512 * sector)
-    (part 0 got stage ++ fetched o (stateOf (getD s 40 0) (getD s 41 0) (getD s 52 0) (Payload k p sector got)) chain mem) o (getD s 41 0) chain (diskOf (configAt s .disk) backing) mem)
+    (part 0 got stage ++ fetched o (stateOf (getD s takenWord 0) (getD s answeredWord 0) (getD s descsWord 0) (Payload k p sector got)) chain mem) o (getD s answeredWord 0) chain (diskOf (configAt s .disk) backing) mem)
 wall-phase s mem backing chain stage (Answer k job got) i f c =
     let o = cfgOf (configAt s) (mapWords s) in
-    let g = answer-fit (configAt s) (getD s 40 0) (getD s 41 0) (mapWords s) (length mem) (length backing) chain (length stage) k job got f in
-    apply-clear (answerStores (o .id) (o .queue) (getD s 41 0) chain (diskOf (configAt s .disk) backing) k job) mem i
-    (answer-misses (o .id) (o .queue) (getD s 41 0) chain (diskOf (configAt s .disk) backing) k job i (g .writable) (g .last-some) c)
-wall-phase s mem backing chain stage (Publish k got) i f c = put-apart mem (configAt s .queue .used + 2) (bytes 2 (oneMore (getD s 41 0))) i (publish-apart (configAt s .queue .used + 2) (oneMore (getD s 41 0)) i c)
+    let g = answer-fit (configAt s) (getD s takenWord 0) (getD s answeredWord 0) (mapWords s) (length mem) (length backing) chain (length stage) k job got f in
+    apply-clear (answerStores (o .id) (o .queue) (getD s answeredWord 0) chain (diskOf (configAt s .disk) backing) k job) mem i
+    (answer-misses (o .id) (o .queue) (getD s answeredWord 0) chain (diskOf (configAt s .disk) backing) k job i (g .writable) (g .last-some) c)
+wall-phase s mem backing chain stage (Publish k got) i f c = put-apart mem (configAt s .queue .used + 2) (bytes 2 (oneMore (getD s answeredWord 0))) i (publish-apart (configAt s .queue .used + 2) (oneMore (getD s answeredWord 0)) i c)
 wall-phase s mem backing chain stage (Broken reason head count at) i f c = refl
 
-pub walls-memory : (s mem backing chain stage : List ℕ) (i : ℕ) → Clear i (touched (configAt s .queue) (getD s 41 0) chain (phaseOf (rowAt s)))
+pub walls-memory : (s mem backing chain stage : List ℕ) (i : ℕ) → Clear i (touched (configAt s .queue) (getD s answeredWord 0) chain (phaseOf (rowAt s)))
     → getD (hdStep s mem backing chain stage .mem) i 0 ≡ getD mem i 0
 unfolding steppedOn stepped
 walls-memory s mem backing chain stage i c =
@@ -205,9 +205,9 @@ unfolding steppedOn stepped step stepWith
 refused-untouched s mem backing chain stage =
     let p = phaseOf (rowAt s) in
     let c = cfgOf (configAt s) (mapWords s) in
-    let f = fetched c (stateOf (getD s 40 0) (getD s 41 0) (getD s 52 0) p) chain mem in
+    let f = fetched c (stateOf (getD s takenWord 0) (getD s answeredWord 0) (getD s descsWord 0) p) chain mem in
     by-step (λ (o : Called). o .code ≡ 4 → o ≡ untouched 4 s mem backing chain stage) s mem backing chain stage (λ n e. rw e)
-    (λ g e. absurd (omega (arith, code-low (effect chain stage p f) (next c (getD s 40 0) chain stage p f), e)))
+    (λ g e. absurd (omega (arith, code-low (effect chain stage p f) (next c (getD s takenWord 0) chain stage p f), e)))
 
 pub broken-untouched : (s mem backing chain stage : List ℕ) (reason head count at : ℕ) → stateWords ≤ length s → level s ≡ 3
     → phaseOf (rowAt s) ≡ Broken reason head count at → hdStep s mem backing chain stage ≡ untouched 3 s mem backing chain stage

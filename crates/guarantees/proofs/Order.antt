@@ -18,7 +18,7 @@ use Rattle.model.proofs.Tests.{on}
 use Rattle.model.proofs.Lists.{length-put, part-put}
 use Rattle.model.proofs.Words.{length-bytes}
 use Rattle.model.proofs.Step.{apply-append, length-apply}
-use Rattle.words.specs.Layout.{stateWords, rowAt, phaseOf, configAt, mapWords, saved, level}
+use Rattle.words.specs.Layout.{stateWords, rowAt, phaseOf, configAt, mapWords, saved, level, takenWord, answeredWord, descsWord}
 use Rattle.words.proofs.Saved.{phase-saved, taken-saved, answered-saved}
 use Rattle.device.specs.Turn.{cfgOf, stateOf}
 use Rattle.hostiledisk.specs.Calls.{Called, stepped, steppedOn, Going, hdStep}
@@ -107,29 +107,29 @@ entry-last id q a chain disk mem k job h =
     let l : length m ≡ length mem = length-put (apply xs mem) (statusAt chain k) (status job ∷ []) ∙ length-apply xs mem in
     rw (apply-append) (part-put m (usedAt q a) 8 b n (rw l h))
 
-entry-step : (s mem backing chain stage : List ℕ) (k : Walk) (job : Job) (got : ℕ) → phaseOf (rowAt s) ≡ Answer k job got → usedAt (configAt s .queue) (getD s 41 0) + 8 ≤ length mem
-    → part (usedAt (configAt s .queue) (getD s 41 0)) 8 (steppedOn s mem backing chain stage .mem) ≡ bytes 4 (k .head) ++ bytes 4 (reported (status job) (k .w))
+entry-step : (s mem backing chain stage : List ℕ) (k : Walk) (job : Job) (got : ℕ) → phaseOf (rowAt s) ≡ Answer k job got → usedAt (configAt s .queue) (getD s answeredWord 0) + 8 ≤ length mem
+    → part (usedAt (configAt s .queue) (getD s answeredWord 0)) 8 (steppedOn s mem backing chain stage .mem) ≡ bytes 4 (k .head) ++ bytes 4 (reported (status job) (k .w))
 unfolding steppedOn stepped step stepWith effect memStores
 entry-step s mem backing chain stage k job got e h =
-    rw e (entry-last (cfgOf (configAt s) (mapWords s) .id) (configAt s .queue) (getD s 41 0) chain (diskOf (configAt s .disk) backing) mem k job h)
+    rw e (entry-last (cfgOf (configAt s) (mapWords s) .id) (configAt s .queue) (getD s answeredWord 0) chain (diskOf (configAt s .disk) backing) mem k job h)
 
 -- 12. If a step leaves a queue that publishes next, that step was S6 of the same request, and the memory that it leaves holds the used entry.
 pub order : (s mem backing chain stage : List ℕ) (k : Walk) (got : ℕ) → Going s (phaseOf (rowAt s)) (length mem) (length backing) chain (length stage)
     → phaseOf (rowAt (steppedOn s mem backing chain stage .state)) ≡ Publish k got
     → (j : AfterAnswer (phaseOf (rowAt s)) k got)
-    × (part (usedAt (configAt s .queue) (getD s 41 0)) 8 (steppedOn s mem backing chain stage .mem) ≡ bytes 4 (k .head) ++ bytes 4 (reported (status (j .job)) (k .w)))
+    × (part (usedAt (configAt s .queue) (getD s answeredWord 0)) 8 (steppedOn s mem backing chain stage .mem) ≡ bytes 4 (k .head) ++ bytes 4 (reported (status (j .job)) (k .w)))
 unfolding steppedOn stepped step stepWith
 order s mem backing chain stage k got g e =
     let p = phaseOf (rowAt s) in
     let c = cfgOf (configAt s) (mapWords s) in
-    let f = fetched c (stateOf (getD s 40 0) (getD s 41 0) (getD s 52 0) p) chain mem in
-    let q = next c (getD s 40 0) chain stage p f in
-    let t = counted (effect chain stage p f) (getD s 40 0) in
-    let a = counted (effect chain stage p f) (getD s 41 0) in
-    let n = measured c (getD s 52 0) p f in
-    let j = after-answer c (getD s 40 0) chain stage p f k got (sym (phase-saved s t a n q (g .words-long)) ∙ e) in
+    let f = fetched c (stateOf (getD s takenWord 0) (getD s answeredWord 0) (getD s descsWord 0) p) chain mem in
+    let q = next c (getD s takenWord 0) chain stage p f in
+    let t = counted (effect chain stage p f) (getD s takenWord 0) in
+    let a = counted (effect chain stage p f) (getD s answeredWord 0) in
+    let n = measured c (getD s descsWord 0) p f in
+    let j = after-answer c (getD s takenWord 0) chain stage p f k got (sym (phase-saved s t a n q (g .words-long)) ∙ e) in
     let x = fit-of s p (length mem) (length backing) chain (length stage) g in
-    (j, entry-step s mem backing chain stage k (j .job) got (j .is) (omega (arith, x .used-in, x .mem-long, mod-lt (getD s 41 0) (x .size-some))))
+    (j, entry-step s mem backing chain stage k (j .job) got (j .is) (omega (arith, x .used-in, x .mem-long, mod-lt (getD s answeredWord 0) (x .size-some))))
 
 -- 11, the counters. A call that answers 2 counts, no other does.
 after-not-two : (p : Phase) → codeAfter p ≡ 2 → ⊥
@@ -152,20 +152,20 @@ counts publishes p n = refl
 
 -- both counters after a call of hd_step
 pub record Counted (s : List ℕ) (o : Called) : Type 0 where
-  pub taken-is : getD (o .state) 40 0 ≡ pick (eqb (o .code) 2) (oneMore (getD s 40 0)) (getD s 40 0)
-  pub answered-is : getD (o .state) 41 0 ≡ pick (eqb (o .code) 2) (oneMore (getD s 41 0)) (getD s 41 0)
+  pub taken-is : getD (o .state) takenWord 0 ≡ pick (eqb (o .code) 2) (oneMore (getD s takenWord 0)) (getD s takenWord 0)
+  pub answered-is : getD (o .state) answeredWord 0 ≡ pick (eqb (o .code) 2) (oneMore (getD s answeredWord 0)) (getD s answeredWord 0)
 
 counted-stepped : (s mem backing chain stage : List ℕ) → stateWords ≤ length s → Counted s (steppedOn s mem backing chain stage)
 unfolding steppedOn stepped step stepWith
 counted-stepped s mem backing chain stage l =
     let p = phaseOf (rowAt s) in
     let c = cfgOf (configAt s) (mapWords s) in
-    let f = fetched c (stateOf (getD s 40 0) (getD s 41 0) (getD s 52 0) p) chain mem in
-    let q = next c (getD s 40 0) chain stage p f in
+    let f = fetched c (stateOf (getD s takenWord 0) (getD s answeredWord 0) (getD s descsWord 0) p) chain mem in
+    let q = next c (getD s takenWord 0) chain stage p f in
     let e = effect chain stage p f in
     record {
-      taken-is = taken-saved s (counted e (getD s 40 0)) (counted e (getD s 41 0)) (measured c (getD s 52 0) p f) q l ∙ counts e q (getD s 40 0);
-      answered-is = answered-saved s (counted e (getD s 40 0)) (counted e (getD s 41 0)) (measured c (getD s 52 0) p f) q l ∙ counts e q (getD s 41 0);
+      taken-is = taken-saved s (counted e (getD s takenWord 0)) (counted e (getD s answeredWord 0)) (measured c (getD s descsWord 0) p f) q l ∙ counts e q (getD s takenWord 0);
+      answered-is = answered-saved s (counted e (getD s takenWord 0)) (counted e (getD s answeredWord 0)) (measured c (getD s descsWord 0) p f) q l ∙ counts e q (getD s answeredWord 0);
     }
 
 pub counters-step : (s mem backing chain stage : List ℕ) → Counted s (hdStep s mem backing chain stage)
@@ -184,21 +184,21 @@ more true n h = refl
 more false n h = omega arith
 
 -- n answers further on both counters are n further, modulo 2^16; and so is used idx, since S7 publishes the new one
-pub counters : (w : World) (ms : List (List ℕ)) → getD (w .state) 40 0 < 65536 → getD (w .state) 41 0 < 65536
-    → (getD (run w (steps ms) .state) 40 0 ≡ (getD (w .state) 40 0 + answersIn w ms) % 65536)
-    × (getD (run w (steps ms) .state) 41 0 ≡ (getD (w .state) 41 0 + answersIn w ms) % 65536)
+pub counters : (w : World) (ms : List (List ℕ)) → getD (w .state) takenWord 0 < 65536 → getD (w .state) answeredWord 0 < 65536
+    → (getD (run w (steps ms) .state) takenWord 0 ≡ (getD (w .state) takenWord 0 + answersIn w ms) % 65536)
+    × (getD (run w (steps ms) .state) answeredWord 0 ≡ (getD (w .state) answeredWord 0 + answersIn w ms) % 65536)
 unfolding run steps answersIn
 counters w [] h k = (omega arith, omega arith)
 counters w (m ∷ ms) h k =
     let v = leaves (ran w (stepOver m)) in
     let x = counters-call w m in
     let b = eqb (ran w (stepOver m) .code) 2 in
-    let p : getD (v .state) 40 0 ≡ (getD (w .state) 40 0 + pick b 1 0) % 65536 = x .taken-is ∙ more b (getD (w .state) 40 0) h in
-    let q : getD (v .state) 41 0 ≡ (getD (w .state) 41 0 + pick b 1 0) % 65536 = x .answered-is ∙ more b (getD (w .state) 41 0) k in
+    let p : getD (v .state) takenWord 0 ≡ (getD (w .state) takenWord 0 + pick b 1 0) % 65536 = x .taken-is ∙ more b (getD (w .state) takenWord 0) h in
+    let q : getD (v .state) answeredWord 0 ≡ (getD (w .state) answeredWord 0 + pick b 1 0) % 65536 = x .answered-is ∙ more b (getD (w .state) answeredWord 0) k in
     let r = counters v ms (omega arith) (omega arith) in
     (r .0 ∙ rw p (omega arith), r .1 ∙ rw q (omega arith))
 
 pub published : (s mem backing chain stage : List ℕ) (k : Walk) (got : ℕ) → phaseOf (rowAt s) ≡ Publish k got
-    → steppedOn s mem backing chain stage .mem ≡ put mem (configAt s .queue .used + 2) (bytes 2 (oneMore (getD s 41 0)))
+    → steppedOn s mem backing chain stage .mem ≡ put mem (configAt s .queue .used + 2) (bytes 2 (oneMore (getD s answeredWord 0)))
 unfolding steppedOn stepped step stepWith effect memStores apply
 published s mem backing chain stage k got e = rw e

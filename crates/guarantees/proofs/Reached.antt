@@ -16,13 +16,13 @@ use Rattle.model.specs.Request.{diskCode}
 use Rattle.model.specs.Sane.{ready}
 use Rattle.model.specs.Step.{Cfg, State, next, chained, measured, fetched, step, stepWith, counted, effect}
 use Rattle.model.proofs.Tests.{on}
-use Rattle.model.proofs.Lists.{Apart, below, above, Disjoint, first, after, put-below, put-in, put-one, length-put, part-put-other}
+use Rattle.model.proofs.Lists.{Apart, below, above, Disjoint, after, put-below, put-in, put-one, length-put, part-put-other}
 use Rattle.model.proofs.Memory.{InOne, locate-in}
-use Rattle.words.specs.Layout.{stateWords, rowOf, rowWords, rowAt, phaseOf, saved, configAt, mapWords, memoryOk, diskOk, enabledOk, level}
+use Rattle.words.specs.Layout.{stateWords, rowOf, rowWords, rowAt, phaseOf, saved, configAt, mapWords, memoryOk, diskOk, enabledOk, level, levelWord, memLenWord, regionsWord, startWord, sectorsWord, roWord, sizeWord, descAreaWord, availAreaWord, usedAreaWord, takenWord, answeredWord, descsWord, regionsFrom}
 use Rattle.words.proofs.Saved.{phase-saved, phase-again, taken-saved, answered-saved, others-saved, length-saved}
 use Rattle.device.specs.Turn.{cfgOf, stateOf}
-use Rattle.hostiledisk.specs.Calls.{Set, Called, told, flag, hdMemory, hdDisk, diskSet, queueWords, queueSet, enabledWith, hdEnableAt, hdReset, hdStep, untouched, stepped, steppedOn, Going}
-use Rattle.hostiledisk.proofs.Laws.{level-two, level-three, memory-ok, fit-of}
+use Rattle.hostiledisk.specs.Calls.{Set, Called, told, flag, memorySet, hdMemory, hdDisk, diskSet, queueWords, queueSet, enabledWith, hdEnableAt, hdReset, hdStep, untouched, stepped, steppedOn, Going}
+use Rattle.hostiledisk.proofs.Laws.{level-three, fit-of}
 use Rattle.guarantees.specs.History.{Call, memory, disk, enable, reset, step as stepOver, World, ran, left, run, BytesNow, Bytes}
 use Rattle.guarantees.specs.Good.{Good, Open, Area, Made}
 use Rattle.guarantees.proofs.Step.{by-step}
@@ -38,24 +38,24 @@ use Rattle.model.specs.declared.Phase.{Phase}
 use Rattle.model.specs.declared.Phase.the-variants.{Poll}
 
 -- the words that set-up wrote are the same after a step
-pub part-saved : (s : List ℕ) (t a n : ℕ) (p : Phase) (k : ℕ) → 3 + k ≤ 40 → part 3 k (saved s t a n p) ≡ part 3 k s
-unfolding saved
-part-saved s t a n p k l = part-put-other s 3 k 40 (t ∷ a ∷ (rowWords (rowOf p) ++ (n ∷ []))) (first l)
+pub part-saved : (s : List ℕ) (t a n : ℕ) (p : Phase) (k : ℕ) → part regionsFrom k (saved s t a n p) ≡ part regionsFrom k s
+unfolding saved rowWords
+part-saved s t a n p k = part-put-other s regionsFrom k takenWord (t ∷ a ∷ (rowWords (rowOf p) ++ (n ∷ []))) (after (omega arith))
 
-pub map-saved : (s : List ℕ) (t a n : ℕ) (p : Phase) → getD s 2 0 ≤ 8 → mapWords (saved s t a n p) ≡ mapWords s
-map-saved s t a n p h = rw (others-saved s t a n p 2 (below (omega arith))) (part-saved s t a n p (3 * getD s 2 0) (omega arith))
+pub map-saved : (s : List ℕ) (t a n : ℕ) (p : Phase) → mapWords (saved s t a n p) ≡ mapWords s
+map-saved s t a n p = rw (others-saved s t a n p regionsWord (below (omega arith))) (part-saved s t a n p (3 * getD s regionsWord 0))
 
 -- a step of the words that were made
-made-saved : (s : List ℕ) (t a n : ℕ) (p : Phase) (chain chain₂ : List ℕ) → stateWords ≤ length s → getD s 2 0 ≤ 8 → Made s chain
-    → Good (regions (mapWords s)) (getD s 34 0) (getD s 28 0) chain₂ p → Open (getD s 29 0) p → Made (saved s t a n p) chain₂
-made-saved s t a n p chain chain₂ l h m g o =
-    let w : (i : ℕ) → i < 40 → getD (saved s t a n p) i 0 ≡ getD s i 0 = λ i u. others-saved s t a n p i (below u) in
+made-saved : (s : List ℕ) (t a n : ℕ) (p : Phase) (chain chain₂ : List ℕ) → stateWords ≤ length s → Made s chain
+    → Good (regions (mapWords s)) (getD s sizeWord 0) (getD s sectorsWord 0) chain₂ p → Open (getD s roWord 0) p → Made (saved s t a n p) chain₂
+made-saved s t a n p chain chain₂ l m g o =
+    let w : (i : ℕ) → i < takenWord → getD (saved s t a n p) i 0 ≡ getD s i 0 = λ i u. others-saved s t a n p i (below u) in
     record {
-      desc-area = rw (map-saved s t a n p h, w 34 (omega arith), w 35 (omega arith)) (m .desc-area);
-      avail-area = rw (map-saved s t a n p h, w 34 (omega arith), w 36 (omega arith)) (m .avail-area);
-      used-area = rw (map-saved s t a n p h, w 34 (omega arith), w 37 (omega arith)) (m .used-area);
-      good = rw (map-saved s t a n p h, w 34 (omega arith), w 28 (omega arith), phase-saved s t a n p l) g;
-      open-disk = rw (w 29 (omega arith), phase-saved s t a n p l) o;
+      desc-area = rw (map-saved s t a n p, w sizeWord (omega arith), w descAreaWord (omega arith)) (m .desc-area);
+      avail-area = rw (map-saved s t a n p, w sizeWord (omega arith), w availAreaWord (omega arith)) (m .avail-area);
+      used-area = rw (map-saved s t a n p, w sizeWord (omega arith), w usedAreaWord (omega arith)) (m .used-area);
+      good = rw (map-saved s t a n p, w sizeWord (omega arith), w sectorsWord (omega arith), phase-saved s t a n p l) g;
+      open-disk = rw (w roWord (omega arith), phase-saved s t a n p l) o;
     }
 
 pub made-step : (s mem backing chain stage : List ℕ) → ((i : ℕ) → getD mem i 0 < 256) → Going s (phaseOf (rowAt s)) (length mem) (length backing) chain (length stage) → Made s chain
@@ -64,12 +64,12 @@ unfolding steppedOn stepped step stepWith configAt
 made-step s mem backing chain stage b g m =
     let p = phaseOf (rowAt s) in
     let c = cfgOf (configAt s) (mapWords s) in
-    let f = fetched c (stateOf (getD s 40 0) (getD s 41 0) (getD s 52 0) p) chain mem in
+    let f = fetched c (stateOf (getD s takenWord 0) (getD s answeredWord 0) (getD s descsWord 0) p) chain mem in
     let x = fit-of s p (length mem) (length backing) chain (length stage) g in
-    made-saved s (counted (effect chain stage p f) (getD s 40 0)) (counted (effect chain stage p f) (getD s 41 0)) (measured c (getD s 52 0) p f) (next c (getD s 40 0) chain stage p f) chain (chained c chain p f)
-    (g .words-long) (level-three s (g .enabled) .memory .few) m
-    (keeps-next c (getD s 40 0) (getD s 41 0) (getD s 52 0) mem chain stage p b (x .size-some) (x .chain-long) (m .good))
-    (keeps-open c (getD s 40 0) chain stage p f (m .open-disk))
+    made-saved s (counted (effect chain stage p f) (getD s takenWord 0)) (counted (effect chain stage p f) (getD s answeredWord 0)) (measured c (getD s descsWord 0) p f) (next c (getD s takenWord 0) chain stage p f) chain (chained c chain p f)
+    (g .words-long) m
+    (keeps-next c (getD s takenWord 0) (getD s answeredWord 0) (getD s descsWord 0) mem chain stage p b (x .size-some) (x .chain-long) (m .good))
+    (keeps-open c (getD s takenWord 0) chain stage p f (m .open-disk))
 
 -- the tower of `level` answers 3 only where word 0 is 3
 tower-tag : (a b c d e f : Bool) → _≡_ {A = ℕ} (pick a (pick b 1 (pick c (pick d 2 (pick e (pick f 3 0) 0)) 0)) 0) 3 → e ≡ true
@@ -80,10 +80,10 @@ tower-tag true false true true e f h = absurd (omega arith)
 tower-tag true false true false false f h = absurd (omega arith)
 tower-tag true false true false true f h = refl
 
-pub level-tag : (s : List ℕ) → level s ≡ 3 → getD s 0 0 ≡ 3
+pub level-tag : (s : List ℕ) → level s ≡ 3 → getD s levelWord 0 ≡ 3
 unfolding level
 level-tag s h =
-    eqb-true (getD s 0 0) 3 (tower-tag (memoryOk s) (eqb (getD s 0 0) 1) (diskOk s) (eqb (getD s 0 0) 2) (eqb (getD s 0 0) 3) (enabledOk s) h)
+    eqb-true (getD s levelWord 0) 3 (tower-tag (memoryOk s) (eqb (getD s levelWord 0) 1) (diskOk s) (eqb (getD s levelWord 0) 2) (eqb (getD s levelWord 0) 3) (enabledOk s) h)
 
 -- enabling: where the areas lie
 areas-placed : (rs : List Region) (size desc avail used : ℕ) (q : Queue) → areas rs size desc avail used ≡ Placed q
@@ -111,42 +111,42 @@ areas-placed rs size desc avail used q h =
 
 -- the words after enabling
 pub queue-word : (s : List ℕ) (q : Queue) (chain stage start : ℕ) (j : ℕ) → stateWords ≤ length s → j < 19
-    → getD (queueSet s q chain stage start) (34 + j) 0 ≡ getD (queueWords q chain stage start) j 0
+    → getD (queueSet s q chain stage start) (sizeWord + j) 0 ≡ getD (queueWords q chain stage start) j 0
 unfolding queueSet rowWords
 queue-word s q chain stage start j l h =
-    put-in (set s 0 3) 34 (queueWords q chain stage start) j h (rw (length-set s 0 3) (omega arith))
+    put-in (set s levelWord 3) sizeWord (queueWords q chain stage start) j h (rw (length-set s levelWord 3) (omega arith))
 
-pub queue-other : (s : List ℕ) (q : Queue) (chain stage start : ℕ) (i : ℕ) → 0 < i → i < 34 → getD (queueSet s q chain stage start) i 0 ≡ getD s i 0
+pub queue-other : (s : List ℕ) (q : Queue) (chain stage start : ℕ) (i : ℕ) → 0 < i → i < sizeWord → getD (queueSet s q chain stage start) i 0 ≡ getD s i 0
 unfolding queueSet
 queue-other s q chain stage start i h l =
-    put-below (set s 0 3) 34 (queueWords q chain stage start) i l
-    ∙ getD-set-other s 0 i 3 0 (λ e. omega arith)
+    put-below (set s levelWord 3) sizeWord (queueWords q chain stage start) i l
+    ∙ getD-set-other s levelWord i 3 0 (λ e. omega arith)
 
-pub queue-part : (s : List ℕ) (q : Queue) (chain stage start n : ℕ) → 3 + n ≤ 34 → part 3 n (queueSet s q chain stage start) ≡ part 3 n s
-unfolding queueSet
-queue-part s q chain stage start n h =
-    part-put-other (set s 0 3) 3 n 34 (queueWords q chain stage start) (first h)
-    ∙ (ap (part 3 n) (sym (put-one s 0 3)) ∙ part-put-other s 3 n 0 (3 ∷ []) (after (omega arith)))
+pub queue-part : (s : List ℕ) (q : Queue) (chain stage start n : ℕ) → part regionsFrom n (queueSet s q chain stage start) ≡ part regionsFrom n s
+unfolding queueSet rowWords
+queue-part s q chain stage start n =
+    part-put-other (set s levelWord 3) regionsFrom n sizeWord (queueWords q chain stage start) (after (omega arith))
+    ∙ (ap (part regionsFrom n) (sym (put-one s levelWord 3)) ∙ part-put-other s regionsFrom n levelWord (3 ∷ []) (after (omega arith)))
 
-queue-map : (s : List ℕ) (q : Queue) (chain stage start : ℕ) → getD s 2 0 ≤ 8 → mapWords (queueSet s q chain stage start) ≡ mapWords s
-queue-map s q chain stage start h = rw (queue-other s q chain stage start 2 (omega arith) (omega arith)) (queue-part s q chain stage start (3 * getD s 2 0) (omega arith))
+queue-map : (s : List ℕ) (q : Queue) (chain stage start : ℕ) → mapWords (queueSet s q chain stage start) ≡ mapWords s
+queue-map s q chain stage start = rw (queue-other s q chain stage start regionsWord (omega arith) (omega arith)) (queue-part s q chain stage start (3 * getD s regionsWord 0))
 
 pub queue-phase : (s : List ℕ) (q : Queue) (chain stage start : ℕ) → stateWords ≤ length s → phaseOf (rowAt (queueSet s q chain stage start)) ≡ Poll
 unfolding rowAt rowWords rowOf phaseOf
 queue-phase s q chain stage start l =
     rw (queue-word s q chain stage start 8 l (omega arith))
 
-made-enable : (s : List ℕ) (q : Queue) (chain stage start : ℕ) (held : List ℕ) → stateWords ≤ length s → getD s 2 0 ≤ 8
+made-enable : (s : List ℕ) (q : Queue) (chain stage start : ℕ) (held : List ℕ) → stateWords ≤ length s
     → Area (regions (mapWords s)) (q .desc) (16 * q .size) × Area (regions (mapWords s)) (q .avail) (6 + 2 * q .size) × Area (regions (mapWords s)) (q .used) (6 + 8 * q .size)
     → Made (queueSet s q chain stage start) held
 unfolding Good Open rowWords
-made-enable s q chain stage start held l h a =
-    let w : (j : ℕ) → j < 19 → getD (queueSet s q chain stage start) (34 + j) 0 ≡ getD (queueWords q chain stage start) j 0 =
+made-enable s q chain stage start held l a =
+    let w : (j : ℕ) → j < 19 → getD (queueSet s q chain stage start) (sizeWord + j) 0 ≡ getD (queueWords q chain stage start) j 0 =
     λ j u. queue-word s q chain stage start j l u in
     record {
-      desc-area = rw (queue-map s q chain stage start h, w 0 (omega arith), w 1 (omega arith)) (a .0);
-      avail-area = rw (queue-map s q chain stage start h, w 0 (omega arith), w 2 (omega arith)) (a .1);
-      used-area = rw (queue-map s q chain stage start h, w 0 (omega arith), w 3 (omega arith)) (a .2);
+      desc-area = rw (queue-map s q chain stage start, w 0 (omega arith), w 1 (omega arith)) (a .0);
+      avail-area = rw (queue-map s q chain stage start, w 0 (omega arith), w 2 (omega arith)) (a .1);
+      used-area = rw (queue-map s q chain stage start, w 0 (omega arith), w 3 (omega arith)) (a .2);
       good = rw (queue-phase s q chain stage start l) tt;
       open-disk = rw (queue-phase s q chain stage start l) tt;
     }
@@ -156,12 +156,18 @@ abbrev pub Kept : World → Type 0
 Kept w = stateWords ≤ length (w .state) → level (w .state) ≡ 3 → Made (w .state) (w .chain)
 
 -- words whose first is not 3 are no enabled queue
-not-three : (s chain : List ℕ) (n : ℕ) → getD s 0 0 ≡ n → (n ≡ 3 → ⊥) → stateWords ≤ length s → level s ≡ 3 → Made s chain
+not-three : (s chain : List ℕ) (n : ℕ) → getD s levelWord 0 ≡ n → (n ≡ 3 → ⊥) → stateWords ≤ length s → level s ≡ 3 → Made s chain
 not-three s chain n e f l h = absurd (f (sym e ∙ level-tag s h))
 
-pub disk-tag : (s : List ℕ) (start sectors ro : ℕ) (id : List ℕ) (b : ℕ) → 0 < length s → getD (diskSet s start sectors ro id b) 0 0 ≡ 2
+pub disk-tag : (s : List ℕ) (start sectors ro : ℕ) (id : List ℕ) (b : ℕ) → 0 < length s → getD (diskSet s start sectors ro id b) levelWord 0 ≡ 2
 unfolding diskSet
-disk-tag s start sectors ro id b h = put-below (set s 0 2) 27 _ 0 (omega arith) ∙ getD-set-same s 0 2 0 h
+disk-tag s start sectors ro id b h = put-below (set s levelWord 2) startWord _ levelWord (omega arith) ∙ getD-set-same s levelWord 2 0 h
+
+pub memory-tag : (s ws : List ℕ) (m : ℕ) → stateWords ≤ length s → getD (memorySet s ws m) levelWord 0 ≡ 1
+unfolding memorySet
+memory-tag s ws m h =
+    let xs : List ℕ = 1 ∷ m ∷ length ws / 3 ∷ [] in
+    put-below (put s levelWord xs) regionsFrom ws levelWord (omega arith) ∙ put-in s levelWord xs 0 (omega arith) (omega arith)
 
 kept-memory : (s chain ws : List ℕ) (m : ℕ) → (stateWords ≤ length s → level s ≡ 3 → Made s chain)
     → stateWords ≤ length (hdMemory s ws m .state) → level (hdMemory s ws m .state) ≡ 3 → Made (hdMemory s ws m .state) chain
@@ -170,8 +176,7 @@ kept-memory s chain ws m k =
     let P : Set → Type 0 = λ x. stateWords ≤ length (x .state) → level (x .state) ≡ 3 → Made (x .state) chain in
     on P (ltb (length s) stateWords) (λ e. k)
     (λ e. on P (eqb (memoryCode m ws) 0)
-    (λ f l h. not-three (put s 0 (1 ∷ m ∷ length ws / 3 ∷ ws)) chain 1
-    (put-in s 0 (1 ∷ m ∷ length ws / 3 ∷ ws) 0 (omega arith) (omega (arith, ltb-false (length s) stateWords e))) (λ z. omega arith) l h)
+    (λ f l h. not-three (memorySet s ws m) chain 1 (memory-tag s ws m (ltb-false (length s) stateWords e)) (λ z. omega arith) l h)
     (λ f. k))
 
 kept-disk : (s chain : List ℕ) (start sectors ro : ℕ) (id : List ℕ) (b : ℕ) → (stateWords ≤ length s → level s ≡ 3 → Made s chain)
@@ -188,17 +193,17 @@ kept-disk s chain start sectors ro id b k =
     (λ f. k))
     (λ f. k))
 
-kept-enabled : (s chain : List ℕ) (c g start : ℕ) (x : Areas) (rs : List Region) (size desc avail used : ℕ) → stateWords ≤ length s → getD s 2 0 ≤ 8
+kept-enabled : (s chain : List ℕ) (c g start : ℕ) (x : Areas) (rs : List Region) (size desc avail used : ℕ) → stateWords ≤ length s
     → areas (regions (mapWords s)) size desc avail used ≡ x → (stateWords ≤ length s → level s ≡ 3 → Made s chain)
     → stateWords ≤ length (enabledWith s c g start x .state) → level (enabledWith s c g start x .state) ≡ 3 → Made (enabledWith s c g start x .state) chain
 unfolding enabledWith
-kept-enabled s chain c g start (Refused n) rs size desc avail used l h e k = k
-kept-enabled s chain c g start (Placed q) rs size desc avail used l h e k =
+kept-enabled s chain c g start (Refused n) rs size desc avail used l e k = k
+kept-enabled s chain c g start (Placed q) rs size desc avail used l e k =
     let P : Set → Type 0 = λ x. stateWords ≤ length (x .state) → level (x .state) ≡ 3 → Made (x .state) chain in
     on P (ltb c (2 * q .size)) (λ f. k)
     (λ f. on P (ltb g 1048576) (λ f. k)
     (λ f. on P (leb 65536 start) (λ f. k)
-    (λ f u v. made-enable s q c g start chain l h (areas-placed (regions (mapWords s)) size desc avail used q e))))
+    (λ f u v. made-enable s q c g start chain l (areas-placed (regions (mapWords s)) size desc avail used q e))))
 
 kept-enable : (s chain : List ℕ) (size desc avail used c g start : ℕ) → (stateWords ≤ length s → level s ≡ 3 → Made s chain)
     → stateWords ≤ length (hdEnableAt s size desc avail used c g start .state) → level (hdEnableAt s size desc avail used c g start .state) ≡ 3
@@ -208,8 +213,7 @@ kept-enable s chain size desc avail used c g start k =
     let P : Set → Type 0 = λ x. stateWords ≤ length (x .state) → level (x .state) ≡ 3 → Made (x .state) chain in
     on P (ltb (length s) stateWords) (λ e. k)
     (λ e. on P (eqb (level s) 2)
-    (λ f. kept-enabled s chain c g start (areas (regions (mapWords s)) size desc avail used) [] size desc avail used (ltb-false (length s) stateWords e)
-    (memory-ok s (level-two s (eqb-true (level s) 2 f)) .few) refl k)
+    (λ f. kept-enabled s chain c g start (areas (regions (mapWords s)) size desc avail used) [] size desc avail used (ltb-false (length s) stateWords e) refl k)
     (λ f. k))
 
 kept-reset : (s chain : List ℕ) → (stateWords ≤ length s → level s ≡ 3 → Made s chain)
@@ -219,7 +223,7 @@ kept-reset s chain k =
     let P : List ℕ → Type 0 = λ x. stateWords ≤ length x → level x ≡ 3 → Made x chain in
     on (λ (x : Set). P (x .state)) (ltb (length s) stateWords) (λ e. k)
     (λ e. on P (eqb (level s) 3)
-    (λ f l h. not-three (set s 0 2) chain 2 (getD-set-same s 0 2 0 (omega (arith, ltb-false (length s) stateWords e))) (λ z. omega arith) l h) (λ f. k))
+    (λ f l h. not-three (set s levelWord 2) chain 2 (getD-set-same s levelWord 2 0 (omega (arith, ltb-false (length s) stateWords e))) (λ z. omega arith) l h) (λ f. k))
 
 kept-step : (s mem backing chain stage : List ℕ) → ((i : ℕ) → getD mem i 0 < 256) → (stateWords ≤ length s → level s ≡ 3 → Made s chain)
     → stateWords ≤ length (hdStep s mem backing chain stage .state) → level (hdStep s mem backing chain stage .state) ≡ 3
@@ -246,6 +250,6 @@ pub kept-start : (w : World) → (level (w .state) ≡ 3 → ⊥) → Kept w
 kept-start w n l h = absurd (n h)
 
 -- on a state that was made no test of the step fails
-pub made-ready : (s chain : List ℕ) → level s ≡ 3 → Made s chain → ready (getD s 1 0) chain (phaseOf (rowAt s)) ≡ true
+pub made-ready : (s chain : List ℕ) → level s ≡ 3 → Made s chain → ready (getD s memLenWord 0) chain (phaseOf (rowAt s)) ≡ true
 made-ready s chain h m =
-    good-ready (getD s 1 0) (regions (mapWords s)) (getD s 34 0) (getD s 28 0) chain (phaseOf (rowAt s)) (level-three s h .memory .sound-map) (m .good)
+    good-ready (getD s memLenWord 0) (regions (mapWords s)) (getD s sizeWord 0) (getD s sectorsWord 0) chain (phaseOf (rowAt s)) (level-three s h .memory .sound-map) (m .good)

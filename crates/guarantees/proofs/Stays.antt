@@ -19,7 +19,7 @@ use Rattle.model.specs.Step.{Cfg, Effect, nothing, stores, answers, publishes, 
 use Rattle.model.proofs.Tests.{both-split}
 use Rattle.model.proofs.Chain.{last-room}
 use Rattle.model.proofs.Lists.{Apart, below}
-use Rattle.words.specs.Layout.{stateWords, jobTag, rowOf, rowAt, phaseOf, saved, configAt, mapWords, memoryOk, diskOk, queueOk, lentOk, tagsOk, phaseOk, enabledOk, level}
+use Rattle.words.specs.Layout.{stateWords, jobTag, rowOf, rowAt, phaseOf, saved, configAt, mapWords, memoryOk, diskOk, queueOk, lentOk, tagsOk, phaseOk, enabledOk, level, levelWord, memLenWord, regionsWord, startWord, sectorsWord, roWord, backingLenWord, id2Word, sizeWord, descAreaWord, availAreaWord, usedAreaWord, chainLenWord, stageLenWord, takenWord, answeredWord, tagWord, aWord, descsWord}
 use Rattle.words.specs.declared.Row.{Row}
 use Rattle.words.proofs.Saved.{row-saved, phase-saved, taken-saved, answered-saved, descs-saved, others-saved}
 use Rattle.device.specs.Turn.{cfgOf, stateOf}
@@ -73,54 +73,54 @@ tower-parts true false true false false f h = absurd (omega arith)
 tower-parts true false true false true false h = absurd (omega arith)
 tower-parts true false true false true true h = (refl, refl, refl, refl, refl, refl)
 
-module _ (s : List ℕ) (t a n : ℕ) (p : Phase) (l : stateWords ≤ length s) (tl : t < 65536) (al : a < 65536) (nl : n ≤ getD s 34 0) where
-  w : (i : ℕ) → i < 40 → getD (saved s t a n p) i 0 ≡ getD s i 0
+module _ (s : List ℕ) (t a n : ℕ) (p : Phase) (l : stateWords ≤ length s) (tl : t < 65536) (al : a < 65536) (nl : n ≤ getD s sizeWord 0) where
+  w : (i : ℕ) → i < takenWord → getD (saved s t a n p) i 0 ≡ getD s i 0
   w i u = others-saved s t a n p i (below u)
 
-  memory-saved : getD s 2 0 ≤ 8 → memoryOk (saved s t a n p) ≡ memoryOk s
+  memory-saved : memoryOk (saved s t a n p) ≡ memoryOk s
   unfolding memoryOk
-  memory-saved h = rw (w 2 (omega arith), w 1 (omega arith), part-saved s t a n p (3 * getD s 2 0) (omega arith))
+  memory-saved = rw (w regionsWord (omega arith), w memLenWord (omega arith), part-saved s t a n p (3 * getD s regionsWord 0))
 
   disk-saved : diskOk (saved s t a n p) ≡ diskOk s
   unfolding diskOk
-  disk-saved = rw (w 27 (omega arith), w 28 (omega arith), w 30 (omega arith), w 29 (omega arith), w 33 (omega arith))
+  disk-saved = rw (w startWord (omega arith), w sectorsWord (omega arith), w backingLenWord (omega arith), w roWord (omega arith), w id2Word (omega arith))
 
   queue-saved : queueOk s ≡ true → queueOk (saved s t a n p) ≡ true
   unfolding queueOk lentOk
   queue-saved e =
-      let z = both-split (sizeOk (getD s 34 0)) _ e in
-      let b = both-split (leb (getD s 35 0 + 16 * getD s 34 0) (getD s 1 0)) _ (z .1) in
-      let c = both-split (leb (getD s 36 0 + (6 + 2 * getD s 34 0)) (getD s 1 0)) _ (b .1) in
-      let d = both-split (leb (getD s 37 0 + (6 + 8 * getD s 34 0)) (getD s 1 0)) _ (c .1) in
-      let f = both-split (leb (2 * getD s 34 0) (getD s 38 0)) _ (d .1) in
-      let g = both-split (leb 1048576 (getD s 39 0)) _ (f .1) in
-      rw (w 34 (omega arith), w 35 (omega arith), w 36 (omega arith), w 37 (omega arith), w 38 (omega arith), w 39 (omega arith), w 1 (omega arith), taken-saved s t a n p l, answered-saved s t a n p l, descs-saved s t a n p l)
-      (both-true (sizeOk (getD s 34 0)) _ (z .0)
-      (both-true (leb (getD s 35 0 + 16 * getD s 34 0) (getD s 1 0)) _ (b .0)
-      (both-true (leb (getD s 36 0 + (6 + 2 * getD s 34 0)) (getD s 1 0)) _ (c .0)
-      (both-true (leb (getD s 37 0 + (6 + 8 * getD s 34 0)) (getD s 1 0)) _ (d .0)
-      (both-true (leb (2 * getD s 34 0) (getD s 38 0)) _ (f .0)
-      (both-true (leb 1048576 (getD s 39 0)) _ (g .0) (both-true (ltb t 65536) _ (lt-ltb t 65536 tl) (both-true (ltb a 65536) _ (lt-ltb a 65536 al) (le-leb n (getD s 34 0) nl)))))))))
+      let z = both-split (sizeOk (getD s sizeWord 0)) _ e in
+      let b = both-split (leb (getD s descAreaWord 0 + 16 * getD s sizeWord 0) (getD s memLenWord 0)) _ (z .1) in
+      let c = both-split (leb (getD s availAreaWord 0 + (6 + 2 * getD s sizeWord 0)) (getD s memLenWord 0)) _ (b .1) in
+      let d = both-split (leb (getD s usedAreaWord 0 + (6 + 8 * getD s sizeWord 0)) (getD s memLenWord 0)) _ (c .1) in
+      let f = both-split (leb (2 * getD s sizeWord 0) (getD s chainLenWord 0)) _ (d .1) in
+      let g = both-split (leb 1048576 (getD s stageLenWord 0)) _ (f .1) in
+      rw (w sizeWord (omega arith), w descAreaWord (omega arith), w availAreaWord (omega arith), w usedAreaWord (omega arith), w chainLenWord (omega arith), w stageLenWord (omega arith), w memLenWord (omega arith), taken-saved s t a n p l, answered-saved s t a n p l, descs-saved s t a n p l)
+      (both-true (sizeOk (getD s sizeWord 0)) _ (z .0)
+      (both-true (leb (getD s descAreaWord 0 + 16 * getD s sizeWord 0) (getD s memLenWord 0)) _ (b .0)
+      (both-true (leb (getD s availAreaWord 0 + (6 + 2 * getD s sizeWord 0)) (getD s memLenWord 0)) _ (c .0)
+      (both-true (leb (getD s usedAreaWord 0 + (6 + 8 * getD s sizeWord 0)) (getD s memLenWord 0)) _ (d .0)
+      (both-true (leb (2 * getD s sizeWord 0) (getD s chainLenWord 0)) _ (f .0)
+      (both-true (leb 1048576 (getD s stageLenWord 0)) _ (g .0) (both-true (ltb t 65536) _ (lt-ltb t 65536 tl) (both-true (ltb a 65536) _ (lt-ltb a 65536 al) (le-leb n (getD s sizeWord 0) nl)))))))))
 
-  tags-saved : tagsOk (getD (saved s t a n p) 42 0) (getD (saved s t a n p) 48 0) ≡ true
+  tags-saved : tagsOk (getD (saved s t a n p) tagWord 0) (getD (saved s t a n p) aWord 0) ≡ true
   unfolding rowAt
   tags-saved =
       let e = row-saved s t a n p l in
-      let x : getD (saved s t a n p) 42 0 ≡ rowOf p .tag = ap (λ (r : Row). r .tag) e in
-      let y : getD (saved s t a n p) 48 0 ≡ rowOf p .a = ap (λ (r : Row). r .a) e in
+      let x : getD (saved s t a n p) tagWord 0 ≡ rowOf p .tag = ap (λ (r : Row). r .tag) e in
+      let y : getD (saved s t a n p) aWord 0 ≡ rowOf p .a = ap (λ (r : Row). r .a) e in
       rw (x, y) (row-tags p)
 
-  pub level-saved : level s ≡ 3 → getD s 2 0 ≤ 8 → sane (getD s 34 0) (getD s 28 0) p ≡ true → level (saved s t a n p) ≡ 3
+  pub level-saved : level s ≡ 3 → sane (getD s sizeWord 0) (getD s sectorsWord 0) p ≡ true → level (saved s t a n p) ≡ 3
   unfolding level enabledOk phaseOk
-  level-saved h e g =
-      let x = tower-parts (memoryOk s) (eqb (getD s 0 0) 1) (diskOk s) (eqb (getD s 0 0) 2) (eqb (getD s 0 0) 3) (enabledOk s) h in
+  level-saved h g =
+      let x = tower-parts (memoryOk s) (eqb (getD s levelWord 0) 1) (diskOk s) (eqb (getD s levelWord 0) 2) (eqb (getD s levelWord 0) 3) (enabledOk s) h in
       let y = both-split (queueOk s) _ (x .5) in
-      let o = w 0 (omega arith) in
-      tower-all (memoryOk (saved s t a n p)) (eqb (getD (saved s t a n p) 0 0) 1) (diskOk (saved s t a n p)) (eqb (getD (saved s t a n p) 0 0) 2) (eqb (getD (saved s t a n p) 0 0) 3) (enabledOk (saved s t a n p))
-      (memory-saved e ∙ x .0) (rw o (x .1)) (disk-saved ∙ x .2) (rw o (x .3)) (rw o (x .4))
+      let o = w levelWord (omega arith) in
+      tower-all (memoryOk (saved s t a n p)) (eqb (getD (saved s t a n p) levelWord 0) 1) (diskOk (saved s t a n p)) (eqb (getD (saved s t a n p) levelWord 0) 2) (eqb (getD (saved s t a n p) levelWord 0) 3) (enabledOk (saved s t a n p))
+      (memory-saved ∙ x .0) (rw o (x .1)) (disk-saved ∙ x .2) (rw o (x .3)) (rw o (x .4))
       (both-true (queueOk (saved s t a n p)) _ (queue-saved (y .0))
-      (both-true (tagsOk (getD (saved s t a n p) 42 0) (getD (saved s t a n p) 48 0)) _ tags-saved
-      (rw (w 34 (omega arith), w 28 (omega arith), phase-saved s t a n p l) g)))
+      (both-true (tagsOk (getD (saved s t a n p) tagWord 0) (getD (saved s t a n p) aWord 0)) _ tags-saved
+      (rw (w sizeWord (omega arith), w sectorsWord (omega arith), phase-saved s t a n p l) g)))
 
 counted-low : (e : Effect) (n : ℕ) → n < 65536 → counted e n < 65536
 unfolding counted oneMore
@@ -157,11 +157,10 @@ unfolding steppedOn stepped step stepWith configAt
 stays s mem backing chain stage b g m =
     let p = phaseOf (rowAt s) in
     let c = cfgOf (configAt s) (mapWords s) in
-    let f = fetched c (stateOf (getD s 40 0) (getD s 41 0) (getD s 52 0) p) chain mem in
+    let f = fetched c (stateOf (getD s takenWord 0) (getD s answeredWord 0) (getD s descsWord 0) p) chain mem in
     let x = fit-of s p (length mem) (length backing) chain (length stage) g in
-    level-saved s (counted (effect chain stage p f) (getD s 40 0)) (counted (effect chain stage p f) (getD s 41 0)) (measured c (getD s 52 0) p f) (next c (getD s 40 0) chain stage p f) (g .words-long)
-    (counted-low (effect chain stage p f) (getD s 40 0) (x .taken-low)) (counted-low (effect chain stage p f) (getD s 41 0) (x .answered-low))
-    (measured-low c (getD s 52 0) p f (level-three s (g .enabled) .queue .descs-low)) (g .enabled)
-    (level-three s (g .enabled) .memory .few)
-    (good-sane (regions (mapWords s)) (getD s 34 0) (getD s 28 0) (chained c chain p f) (next c (getD s 40 0) chain stage p f)
-    (keeps-next c (getD s 40 0) (getD s 41 0) (getD s 52 0) mem chain stage p b (x .size-some) (x .chain-long) (m .good)))
+    level-saved s (counted (effect chain stage p f) (getD s takenWord 0)) (counted (effect chain stage p f) (getD s answeredWord 0)) (measured c (getD s descsWord 0) p f) (next c (getD s takenWord 0) chain stage p f) (g .words-long)
+    (counted-low (effect chain stage p f) (getD s takenWord 0) (x .taken-low)) (counted-low (effect chain stage p f) (getD s answeredWord 0) (x .answered-low))
+    (measured-low c (getD s descsWord 0) p f (level-three s (g .enabled) .queue .descs-low)) (g .enabled)
+    (good-sane (regions (mapWords s)) (getD s sizeWord 0) (getD s sectorsWord 0) (chained c chain p f) (next c (getD s takenWord 0) chain stage p f)
+    (keeps-next c (getD s takenWord 0) (getD s answeredWord 0) (getD s descsWord 0) mem chain stage p b (x .size-some) (x .chain-long) (m .good)))

@@ -14,7 +14,7 @@ use Rattle.model.specs.Step.{Effect, nothing, stores, answers, publishes, Store
 use Rattle.model.proofs.Tests.{on}
 use Rattle.model.proofs.Lists.{Apart, below, above, put-apart}
 use Rattle.model.proofs.Sane.{payload-ok}
-use Rattle.words.specs.Layout.{stateWords, rowAt, phaseOf, level, configAt, mapWords}
+use Rattle.words.specs.Layout.{stateWords, rowAt, phaseOf, level, configAt, mapWords, memLenWord, startWord, sectorsWord, takenWord, answeredWord, descsWord}
 use Rattle.device.specs.Turn.{cfgOf, stateOf}
 use Rattle.model.specs.declared.Walk.{Walk}
 use Rattle.hostiledisk.specs.Calls.{Called, untouched, isBroken, longEnough, stepped, steppedOn, Going, hdStep}
@@ -32,7 +32,7 @@ by-answer P s mem backing chain stage u g =
     (λ a. on P (eqb (level s) 3)
     (λ b. on P (isBroken (phaseOf (rowAt s))) (λ c. u 3 (omega arith))
     (λ c. on P (longEnough s (length mem) (length backing) (length chain) (length stage))
-    (λ d. on P (ready (getD s 1 0) chain (phaseOf (rowAt s)))
+    (λ d. on P (ready (getD s memLenWord 0) chain (phaseOf (rowAt s)))
     (λ e. g (record { words-long = ltb-false (length s) stateWords a; enabled = eqb-true (level s) 3 b; phase-is = refl; slices-long = d; chain-ready = e }))
     (λ e. u 4 (omega arith)))
     (λ d. u 4 (omega arith))))
@@ -86,12 +86,12 @@ stores-apart (answers k job) d c b i h x = refl
 stores-apart publishes d c b i h k = refl
 
 -- 8, one call: bytes of the backing slice outside this disk's range stay, whatever the words are
-pub wall-step : (s mem backing chain stage : List ℕ) (i : ℕ) → Apart i (getD s 27 0) (512 * getD s 28 0)
+pub wall-step : (s mem backing chain stage : List ℕ) (i : ℕ) → Apart i (getD s startWord 0) (512 * getD s sectorsWord 0)
     → getD (hdStep s mem backing chain stage .backing) i 0 ≡ getD backing i 0
 unfolding steppedOn stepped step stepWith configAt
 wall-step s mem backing chain stage i k =
     by-step (λ (o : Called). getD (o .backing) i 0 ≡ getD backing i 0) s mem backing chain stage (λ n. refl)
     (λ g. let c = cfgOf (configAt s) (mapWords s) in
     let p = phaseOf (rowAt s) in
-    stores-apart (effect chain stage p (fetched c (stateOf (getD s 40 0) (getD s 41 0) (getD s 52 0) p) chain mem)) (getD s 27 0) (getD s 28 0) backing i
-    (stores-in c (getD s 40 0) (getD s 41 0) (getD s 52 0) p (level-three s (g .enabled) .phase) mem chain stage) k)
+    stores-apart (effect chain stage p (fetched c (stateOf (getD s takenWord 0) (getD s answeredWord 0) (getD s descsWord 0) p) chain mem)) (getD s startWord 0) (getD s sectorsWord 0) backing i
+    (stores-in c (getD s takenWord 0) (getD s answeredWord 0) (getD s descsWord 0) p (level-three s (g .enabled) .phase) mem chain stage) k)

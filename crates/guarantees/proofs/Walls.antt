@@ -12,7 +12,7 @@ use Rattle.model.specs.Bytes.{put, part}
 use Rattle.model.specs.Sane.{ready}
 use Rattle.model.specs.Step.{Effect, nothing, stores, answers, publishes, shifted, diskStores, effect, diskOf, step, stepWith, fetched}
 use Rattle.model.proofs.Lists.{Apart, below, above, length-put, part-cong}
-use Rattle.words.specs.Layout.{stateWords, rowAt, phaseOf, level, configAt, mapWords}
+use Rattle.words.specs.Layout.{stateWords, rowAt, phaseOf, level, configAt, mapWords, memLenWord, startWord, sectorsWord, takenWord, answeredWord, descsWord}
 use Rattle.device.specs.Turn.{cfgOf, stateOf}
 use Rattle.hostiledisk.specs.Calls.{Called, untouched, isBroken, longEnough, stepped, steppedOn, hdStep}
 use Rattle.guarantees.specs.History.{Call, memory, disk, enable, reset, step as stepOver, World, ran, left, run, View, view, views, OutsideNow, Outside, WithinNow, Within, Alike, Lent, House, Turn, worldOf, lentBy, act, acts, callsOf, viewsOf, Apartments}
@@ -73,20 +73,20 @@ module _ (In : ℕ → Type 0) (s mem b₁ b₂ chain stage : List ℕ) (l : len
   same-untouched : (n : ℕ) → Same In (untouched n s mem b₁ chain stage) (untouched n s mem b₂ chain stage)
   same-untouched n = record { seen = refl; long = l; inside = h }
 
-  same-stepped : ((i : ℕ) → getD s 27 0 ≤ i → i < getD s 27 0 + 512 * getD s 28 0 → In i) → Same In (steppedOn s mem b₁ chain stage) (steppedOn s mem b₂ chain stage)
+  same-stepped : ((i : ℕ) → getD s startWord 0 ≤ i → i < getD s startWord 0 + 512 * getD s sectorsWord 0 → In i) → Same In (steppedOn s mem b₁ chain stage) (steppedOn s mem b₂ chain stage)
   unfolding steppedOn stepped step stepWith configAt
   same-stepped c =
       let p = phaseOf (rowAt s) in
-      let e = effect chain stage p (fetched (cfgOf (configAt s) (mapWords s)) (stateOf (getD s 40 0) (getD s 41 0) (getD s 52 0) p) chain mem) in
+      let e = effect chain stage p (fetched (cfgOf (configAt s) (mapWords s)) (stateOf (getD s takenWord 0) (getD s answeredWord 0) (getD s descsWord 0) p) chain mem) in
       let d : diskOf (configAt s .disk) b₁ ≡ diskOf (configAt s .disk) b₂ =
-      part-cong (getD s 27 0) (512 * getD s 28 0) b₁ b₂ l (λ i u v. h i (c i u v)) in
+      part-cong (getD s startWord 0) (512 * getD s sectorsWord 0) b₁ b₂ l (λ i u v. h i (c i u v)) in
       record {
         seen = rw d;
-        long = stores-length e (getD s 27 0) b₁ ∙ (l ∙ sym (stores-length e (getD s 27 0) b₂));
-        inside = λ i x. stores-agree e (getD s 27 0) b₁ b₂ i l (h i x);
+        long = stores-length e (getD s startWord 0) b₁ ∙ (l ∙ sym (stores-length e (getD s startWord 0) b₂));
+        inside = λ i x. stores-agree e (getD s startWord 0) b₁ b₂ i l (h i x);
       }
 
-  same-step : ((i : ℕ) → getD s 27 0 ≤ i → i < getD s 27 0 + 512 * getD s 28 0 → In i) → Same In (hdStep s mem b₁ chain stage) (hdStep s mem b₂ chain stage)
+  same-step : ((i : ℕ) → getD s startWord 0 ≤ i → i < getD s startWord 0 + 512 * getD s sectorsWord 0 → In i) → Same In (hdStep s mem b₁ chain stage) (hdStep s mem b₂ chain stage)
   unfolding hdStep
   same-step c =
       let u = same-untouched in
@@ -95,7 +95,7 @@ module _ (In : ℕ → Type 0) (s mem b₁ b₂ chain stage : List ℕ) (l : len
       (same-pick In (eqb (level s) 3) _ _ _ _
       (same-pick In (isBroken (phaseOf (rowAt s))) _ _ _ _ (u 3)
       (same-pick In (longEnough s (length mem) (length b₂) (length chain) (length stage)) _ _ _ _
-      (same-pick In (ready (getD s 1 0) chain (phaseOf (rowAt s))) _ _ _ _ (same-stepped c) (u 4)) (u 4)))
+      (same-pick In (ready (getD s memLenWord 0) chain (phaseOf (rowAt s))) _ _ _ _ (same-stepped c) (u 4)) (u 4)))
       (u 4)))
 
 -- .. one call of any kind
@@ -139,21 +139,21 @@ outside-of In w (memory words m) i n o = tt
 outside-of In w (disk start sectors ro id backing) i n o = tt
 outside-of In w (enable size desc avail used chain stage start) i n o = tt
 outside-of In w reset i n o = tt
-outside-of In w (stepOver mem) i n o = go (ltb i (getD (w .state) 27 0)) refl (leb (getD (w .state) 27 0 + 512 * getD (w .state) 28 0) i) refl
+outside-of In w (stepOver mem) i n o = go (ltb i (getD (w .state) startWord 0)) refl (leb (getD (w .state) startWord 0 + 512 * getD (w .state) sectorsWord 0) i) refl
   where
-    go : (a : Bool) → ltb i (getD (w .state) 27 0) ≡ a → (b : Bool) → leb (getD (w .state) 27 0 + 512 * getD (w .state) 28 0) i ≡ b
-        → Apart i (getD (w .state) 27 0) (512 * getD (w .state) 28 0)
-    go true t b u = below (ltb-true i (getD (w .state) 27 0) t)
-    go false t true u = above (leb-true (getD (w .state) 27 0 + 512 * getD (w .state) 28 0) i u)
+    go : (a : Bool) → ltb i (getD (w .state) startWord 0) ≡ a → (b : Bool) → leb (getD (w .state) startWord 0 + 512 * getD (w .state) sectorsWord 0) i ≡ b
+        → Apart i (getD (w .state) startWord 0) (512 * getD (w .state) sectorsWord 0)
+    go true t b u = below (ltb-true i (getD (w .state) startWord 0) t)
+    go false t true u = above (leb-true (getD (w .state) startWord 0 + 512 * getD (w .state) sectorsWord 0) i u)
     go false t false u =
-        absurd (n (o i (ltb-false i (getD (w .state) 27 0) t) (leb-false (getD (w .state) 27 0 + 512 * getD (w .state) 28 0) i u)))
+        absurd (n (o i (ltb-false i (getD (w .state) startWord 0) t) (leb-false (getD (w .state) startWord 0 + 512 * getD (w .state) sectorsWord 0) i u)))
 
 -- the backing slice keeps its length
 length-stepped : (s mem backing chain stage : List ℕ) → length (steppedOn s mem backing chain stage .backing) ≡ length backing
 unfolding steppedOn stepped step stepWith configAt
 length-stepped s mem backing chain stage =
     let p = phaseOf (rowAt s) in
-    stores-length (effect chain stage p (fetched (cfgOf (configAt s) (mapWords s)) (stateOf (getD s 40 0) (getD s 41 0) (getD s 52 0) p) chain mem)) (getD s 27 0) backing
+    stores-length (effect chain stage p (fetched (cfgOf (configAt s) (mapWords s)) (stateOf (getD s takenWord 0) (getD s answeredWord 0) (getD s descsWord 0) p) chain mem)) (getD s startWord 0) backing
 
 length-call : (w : World) (c : Call) → length (ran w c .backing) ≡ length (w .backing)
 unfolding ran

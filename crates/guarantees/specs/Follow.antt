@@ -6,7 +6,7 @@ use mathlib.Core.List.{List, [], _∷_}
 use mathlib.Core.Path.{_≡_}
 use lib.ListN.{getD, length}
 use Rattle.model.specs.Step.{Cfg, State, Out, step}
-use Rattle.words.specs.Layout.{stateWords, rowAt, phaseOf, configAt, mapWords, level}
+use Rattle.words.specs.Layout.{stateWords, rowAt, phaseOf, configAt, mapWords, level, takenWord, answeredWord, descsWord}
 use Rattle.device.specs.Turn.{cfgOf}
 use Rattle.hostiledisk.specs.Calls.{longEnough}
 use Rattle.guarantees.specs.History.{World}
@@ -19,9 +19,9 @@ pub record Matches (c : Cfg) (n : ℕ) (w : World) (s : State) (backing chain st
   pub made : Made (w .state) (w .chain)
   pub slices-long : longEnough (w .state) n (length (w .backing)) (length (w .chain)) (length (w .stage)) ≡ true
   pub cfg-is : cfgOf (configAt (w .state)) (mapWords (w .state)) ≡ c
-  pub taken-is : getD (w .state) 40 0 ≡ s .taken
-  pub answered-is : getD (w .state) 41 0 ≡ s .answered
-  pub descs-is : getD (w .state) 52 0 ≡ s .descs
+  pub taken-is : getD (w .state) takenWord 0 ≡ s .taken
+  pub answered-is : getD (w .state) answeredWord 0 ≡ s .answered
+  pub descs-is : getD (w .state) descsWord 0 ≡ s .descs
   pub phase-is : phaseOf (rowAt (w .state)) ≡ s .phase
   pub backing-is : w .backing ≡ backing
   pub chain-is : w .chain ≡ chain

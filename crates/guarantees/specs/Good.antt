@@ -5,7 +5,7 @@ use mathlib.Core.List.{List}
 use mathlib.Core.Path.{_≡_}
 use lib.ListN.{getD}
 use Rattle.model.specs.Memory.{Region, regions}
-use Rattle.words.specs.Layout.{mapWords, phaseOf, rowAt}
+use Rattle.words.specs.Layout.{mapWords, phaseOf, rowAt, sectorsWord, roWord, sizeWord, descAreaWord, availAreaWord, usedAreaWord}
 use Rattle.model.specs.Request.{fits}
 use Rattle.model.specs.Sane.{jobOk, refusedAt}
 use Rattle.model.proofs.Memory.{InOne}
@@ -69,8 +69,8 @@ pub record Area (rs : List Region) (at n : ℕ) : Type 0 where
 
 -- words of an enabled queue that set-up and steps made, beside the chain memory
 pub record Made (s chain : List ℕ) : Type 0 where
-  pub desc-area : Area (regions (mapWords s)) (getD s 35 0) (16 * getD s 34 0)
-  pub avail-area : Area (regions (mapWords s)) (getD s 36 0) (6 + 2 * getD s 34 0)
-  pub used-area : Area (regions (mapWords s)) (getD s 37 0) (6 + 8 * getD s 34 0)
-  pub good : Good (regions (mapWords s)) (getD s 34 0) (getD s 28 0) chain (phaseOf (rowAt s))
-  pub open-disk : Open (getD s 29 0) (phaseOf (rowAt s))
+  pub desc-area : Area (regions (mapWords s)) (getD s descAreaWord 0) (16 * getD s sizeWord 0)
+  pub avail-area : Area (regions (mapWords s)) (getD s availAreaWord 0) (6 + 2 * getD s sizeWord 0)
+  pub used-area : Area (regions (mapWords s)) (getD s usedAreaWord 0) (6 + 8 * getD s sizeWord 0)
+  pub good : Good (regions (mapWords s)) (getD s sizeWord 0) (getD s sectorsWord 0) chain (phaseOf (rowAt s))
+  pub open-disk : Open (getD s roWord 0) (phaseOf (rowAt s))

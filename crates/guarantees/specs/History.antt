@@ -11,7 +11,7 @@ use Rattle.model.specs.Step.{Span, want, usedAt, writables, Store, diskStores, 
 use Rattle.model.specs.Bytes.{part}
 use Rattle.model.specs.Sane.{ready}
 use Rattle.device.specs.Turn.{cfgOf}
-use Rattle.words.specs.Layout.{stateWords, rowAt, phaseOf, configAt, mapWords, level}
+use Rattle.words.specs.Layout.{stateWords, rowAt, phaseOf, configAt, mapWords, level, memLenWord, startWord, sectorsWord, takenWord}
 use Rattle.model.specs.declared.Queue.{Queue}
 use Rattle.model.specs.declared.Phase.{Phase}
 use Rattle.model.specs.declared.Phase.the-variants.{Poll, Entry, Chain, Header, Payload, Answer, Publish, Broken}
@@ -72,7 +72,7 @@ OutsideNow i w (memory words m) = Unit {0}
 OutsideNow i w (disk start sectors ro id backing) = Unit {0}
 OutsideNow i w (enable size desc avail used chain stage start) = Unit {0}
 OutsideNow i w reset = Unit {0}
-OutsideNow i w (step mem) = Apart i (getD (w .state) 27 0) (512 * getD (w .state) 28 0)
+OutsideNow i w (step mem) = Apart i (getD (w .state) startWord 0) (512 * getD (w .state) sectorsWord 0)
 
 unfoldable pub Outside : ℕ → World → List Call → Type 0
 Outside i w [] = Unit {0}
@@ -84,7 +84,7 @@ WithinNow In w (memory words m) = Unit {0}
 WithinNow In w (disk start sectors ro id backing) = Unit {0}
 WithinNow In w (enable size desc avail used chain stage start) = Unit {0}
 WithinNow In w reset = Unit {0}
-WithinNow In w (step mem) = (i : ℕ) → getD (w .state) 27 0 ≤ i → i < getD (w .state) 27 0 + 512 * getD (w .state) 28 0 → In i
+WithinNow In w (step mem) = (i : ℕ) → getD (w .state) startWord 0 ≤ i → i < getD (w .state) startWord 0 + 512 * getD (w .state) sectorsWord 0 → In i
 
 unfoldable pub Within : (ℕ → Type 0) → World → List Call → Type 0
 Within In w [] = Unit {0}
@@ -147,7 +147,7 @@ Apartments In h (x ∷ xs) = WithinNow (In (x .who)) (worldOf h (x .who)) (x .wh
 
 -- the one range of guest memory that a step on these words wants
 abbrev pub wanted : List ℕ → List ℕ → Span
-wanted s chain = want (cfgOf (configAt s) (mapWords s)) (getD s 40 0) chain (phaseOf (rowAt s))
+wanted s chain = want (cfgOf (configAt s) (mapWords s)) (getD s takenWord 0) chain (phaseOf (rowAt s))
 
 -- the ranges of guest memory that a step may write: writable buffers of the chain at hand and the used entry; or used idx
 unfoldable pub touched : Queue → ℕ → List ℕ → Phase → List Span
@@ -188,7 +188,7 @@ written w (step mem) =
     (pick (eqb (level (w .state)) 3)
     (pick (isBroken (phaseOf (rowAt (w .state)))) []
     (pick (longEnough (w .state) (length mem) (length (w .backing)) (length (w .chain)) (length (w .stage)))
-    (pick (ready (getD (w .state) 1 0) (w .chain) (phaseOf (rowAt (w .state))))
+    (pick (ready (getD (w .state) memLenWord 0) (w .chain) (phaseOf (rowAt (w .state))))
     (diskStores (effect (w .chain) (w .stage) (phaseOf (rowAt (w .state))) (part (wanted (w .state) (w .chain) .at) (wanted (w .state) (w .chain) .len) mem)))
     [])
     []))
@@ -204,7 +204,7 @@ DiskNow d n w (memory words m) = Unit {0}
 DiskNow d n w (disk start sectors ro id backing) = Unit {0}
 DiskNow d n w (enable size desc avail used chain stage start) = Unit {0}
 DiskNow d n w reset = Unit {0}
-DiskNow d n w (step mem) = (getD (w .state) 27 0 ≡ d) × (512 * getD (w .state) 28 0 ≡ n)
+DiskNow d n w (step mem) = (getD (w .state) startWord 0 ≡ d) × (512 * getD (w .state) sectorsWord 0 ≡ n)
 
 unfoldable pub DiskIs : ℕ → ℕ → World → List Call → Type 0
 DiskIs d n w [] = Unit {0}

@@ -8,26 +8,26 @@ use lib.Dec.{leb, ltb, eqb}
 use lib.ListN.{getD, length}
 use borrow.Author.Tests.{eqb-true, leb-true}
 use Rattle.model.specs.Pick.{pick, both}
-use Rattle.model.specs.Memory.{regions, sound, regionsCode, memoryCode}
+use Rattle.model.specs.Memory.{regions, sound, regionsMax}
 use Rattle.model.specs.Request.{diskCode}
 use Rattle.model.specs.Sane.{sane, ready}
 use Rattle.model.proofs.Tests.{told, both-split}
 use Rattle.device.specs.Turn.{Fit}
-use Rattle.words.specs.Layout.{mapWords, phaseOf, rowAt, configAt, memoryOk, diskOk, queueOk, tagsOk, phaseOk, enabledOk, level}
+use Rattle.words.specs.Layout.{mapWords, phaseOf, rowAt, configAt, memoryOk, diskOk, queueOk, tagsOk, phaseOk, enabledOk, level, levelWord, memLenWord, regionsWord, startWord, sectorsWord, backingLenWord, sizeWord, chainLenWord, takenWord, answeredWord, tagWord, aWord}
 use Rattle.words.proofs.Laws.{QueueOk, queue-ok}
 use Rattle.hostiledisk.specs.Calls.{longEnough, Going, StepIs, untouched}
 use Rattle.model.specs.declared.Phase.{Phase}
 
 pub record MemoryOk (s : List ℕ) : Type 0 where
-  pub some : 1 ≤ getD s 2 0
-  pub few : getD s 2 0 ≤ 8
-  pub sound-map : sound (getD s 1 0) (regions (mapWords s)) ≡ true
+  pub some : 1 ≤ getD s regionsWord 0
+  pub few : getD s regionsWord 0 ≤ regionsMax
+  pub sound-map : sound (getD s memLenWord 0) (regions (mapWords s)) ≡ true
 
 pub memory-ok : (s : List ℕ) → memoryOk s ≡ true → MemoryOk s
 unfolding memoryOk
 memory-ok s e =
-    let a = both-split (leb 1 (getD s 2 0)) _ e in
-    let b = both-split (leb (getD s 2 0) 8) _ (a .1) in
+    let a = both-split (leb 1 (getD s regionsWord 0)) _ e in
+    let b = both-split (leb (getD s regionsWord 0) regionsMax) _ (a .1) in
     record { some = omega told; few = omega told; sound-map = b .1 }
 
 -- a disk that set-up accepted lies in the backing slice
@@ -59,37 +59,37 @@ tower-two true b c d e f h = refl
 
 pub level-two : (s : List ℕ) → level s ≡ 2 → memoryOk s ≡ true
 unfolding level
-level-two s h = tower-two (memoryOk s) (eqb (getD s 0 0) 1) (diskOk s) (eqb (getD s 0 0) 2) (eqb (getD s 0 0) 3) (enabledOk s) h
+level-two s h = tower-two (memoryOk s) (eqb (getD s levelWord 0) 1) (diskOk s) (eqb (getD s levelWord 0) 2) (eqb (getD s levelWord 0) 3) (enabledOk s) h
 
 pub record Enabled (s : List ℕ) : Type 0 where
   pub memory : MemoryOk s
-  pub disk-inside : getD s 27 0 + 512 * getD s 28 0 ≤ getD s 30 0
+  pub disk-inside : getD s startWord 0 + 512 * getD s sectorsWord 0 ≤ getD s backingLenWord 0
   pub queue : QueueOk s
-  pub phase : sane (getD s 34 0) (getD s 28 0) (phaseOf (rowAt s)) ≡ true
+  pub phase : sane (getD s sizeWord 0) (getD s sectorsWord 0) (phaseOf (rowAt s)) ≡ true
 
 pub level-three : (s : List ℕ) → level s ≡ 3 → Enabled s
 unfolding level diskOk enabledOk phaseOk
 level-three s h =
-    let t = tower-three (memoryOk s) (eqb (getD s 0 0) 1) (diskOk s) (eqb (getD s 0 0) 2) (eqb (getD s 0 0) 3) (enabledOk s) h in
-    let d = both-split (eqb (diskCode (getD s 27 0) (getD s 28 0) (getD s 30 0)) 0) _ (t .1) in
+    let t = tower-three (memoryOk s) (eqb (getD s levelWord 0) 1) (diskOk s) (eqb (getD s levelWord 0) 2) (eqb (getD s levelWord 0) 3) (enabledOk s) h in
+    let d = both-split (eqb (diskCode (getD s startWord 0) (getD s sectorsWord 0) (getD s backingLenWord 0)) 0) _ (t .1) in
     let e = both-split (queueOk s) _ (t .2) in
-    let p = both-split (tagsOk (getD s 42 0) (getD s 48 0)) _ (e .1) in
+    let p = both-split (tagsOk (getD s tagWord 0) (getD s aWord 0)) _ (e .1) in
     record {
       memory = memory-ok s (t .0);
-      disk-inside = disk-in (getD s 27 0) (getD s 28 0) (getD s 30 0) (eqb-true (diskCode (getD s 27 0) (getD s 28 0) (getD s 30 0)) 0 (d .0));
+      disk-inside = disk-in (getD s startWord 0) (getD s sectorsWord 0) (getD s backingLenWord 0) (eqb-true (diskCode (getD s startWord 0) (getD s sectorsWord 0) (getD s backingLenWord 0)) 0 (d .0));
       queue = queue-ok s (e .0);
       phase = p .1;
     }
 
 -- what a step stands on
 pub fit-of : (s : List ℕ) (p : Phase) (mem backing : ℕ) (chain : List ℕ) (stage : ℕ) → Going s p mem backing chain stage
-    → Fit (configAt s) (getD s 40 0) (getD s 41 0) p (mapWords s) mem backing chain stage
+    → Fit (configAt s) (getD s takenWord 0) (getD s answeredWord 0) p (mapWords s) mem backing chain stage
 unfolding configAt longEnough
 fit-of s p mem backing chain stage g =
     let e = level-three s (g .enabled) in
-    let a = both-split (leb (getD s 1 0) mem) _ (g .slices-long) in
-    let b = both-split (leb (getD s 30 0) backing) _ (a .1) in
-    let c = both-split (leb (getD s 38 0) (length chain)) _ (b .1) in
+    let a = both-split (leb (getD s memLenWord 0) mem) _ (g .slices-long) in
+    let b = both-split (leb (getD s backingLenWord 0) backing) _ (a .1) in
+    let c = both-split (leb (getD s chainLenWord 0) (length chain)) _ (b .1) in
     let q = e .queue in
     let i = e .disk-inside in
     record {
@@ -108,19 +108,6 @@ fit-of s p mem backing chain stage g =
       sane-phase = rw (g .phase-is) (e .phase);
       ready-phase = g .chain-ready;
     }
-
--- set-up accepts at most 8 regions
-pub memory-few : (m : ℕ) (ws : List ℕ) → memoryCode m ws ≡ 0 → length ws ≤ 24
-unfolding memoryCode
-memory-few m ws e = go (both (eqb (length ws % 3) 0) (both (leb 1 (length ws / 3)) (leb (length ws / 3) 8))) refl e
-  where
-    go : (b : Bool) → both (eqb (length ws % 3) 0) (both (leb 1 (length ws / 3)) (leb (length ws / 3) 8)) ≡ b
-        → pick b (regionsCode m [] (regions ws)) 20 ≡ 0 → length ws ≤ 24
-    go true t e =
-        let a = both-split (eqb (length ws % 3) 0) (both (leb 1 (length ws / 3)) (leb (length ws / 3) 8)) t in
-        let b = both-split (leb 1 (length ws / 3)) (leb (length ws / 3) 8) (a .1) in
-        omega told
-    go false t e = absurd (omega arith)
 
 -- a call that touches nothing
 pub untouched-is : (n : ℕ) (s mem backing chain stage : List ℕ) → StepIs (untouched n s mem backing chain stage) n s mem backing chain stage

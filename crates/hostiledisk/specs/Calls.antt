@@ -19,7 +19,7 @@ use Rattle.model.specs.declared.Phase.the-variants.{Poll, Entry, Chain, Header,
 use Rattle.hostiledisk.specs.declared.Seen.{Seen}
 use Rattle.model.specs.declared.Queue.{Queue}
 use Rattle.device.specs.Turn.{cfgOf, stateOf}
-use Rattle.words.specs.Layout.{stateWords, rowOf, rowWords, rowAt, phaseOf, saved, configAt, mapWords, framed, level}
+use Rattle.words.specs.Layout.{stateWords, rowOf, rowWords, rowAt, phaseOf, saved, configAt, mapWords, framed, level, levelWord, memLenWord, startWord, backingLenWord, sizeWord, chainLenWord, stageLenWord, takenWord, answeredWord, tagWord, headWord, countWord, aWord, bWord, descsWord, regionsFrom}
 
 -- what a set-up call answers, and the state afterwards
 pub record Set : Type 0 where
@@ -34,10 +34,13 @@ unfoldable pub chainWords : ℕ → ℕ
 chainWords q = pick (sizeOk q) (2 * q) 0
 
 -- hd_memory: "40 state too short · 20 to 24 · 0". It forgets everything that was set up before.
+unfoldable pub memorySet : List ℕ → List ℕ → ℕ → List ℕ
+memorySet s ws m = put (put s levelWord (1 ∷ m ∷ length ws / 3 ∷ [])) regionsFrom ws
+
 unfoldable pub hdMemory : List ℕ → List ℕ → ℕ → Set
 hdMemory s ws m =
     pick (ltb (length s) stateWords) (told 40 s)
-    (pick (eqb (memoryCode m ws) 0) (told 0 (put s 0 (1 ∷ m ∷ length ws / 3 ∷ ws))) (told (memoryCode m ws) s))
+    (pick (eqb (memoryCode m ws) 0) (told 0 (memorySet s ws m)) (told (memoryCode m ws) s))
 
 -- hd_disk: "40 · 41 no memory registered, or a queue is enabled · 44 identity not 20 bytes · 29, 30 · 0"
 abbrev pub flag : ℕ → ℕ
@@ -45,7 +48,7 @@ flag n = pick (eqb n 0) 0 1
 
 unfoldable pub diskSet : List ℕ → ℕ → ℕ → ℕ → List ℕ → ℕ → List ℕ
 diskSet s start sectors ro id backing =
-    put (set s 0 2) 27 (start ∷ sectors ∷ flag ro ∷ backing ∷ word 8 0 id ∷ word 8 8 id ∷ word 4 16 id ∷ [])
+    put (set s levelWord 2) startWord (start ∷ sectors ∷ flag ro ∷ backing ∷ word 8 0 id ∷ word 8 8 id ∷ word 4 16 id ∷ [])
 
 unfoldable pub hdDisk : List ℕ → ℕ → ℕ → ℕ → List ℕ → ℕ → Set
 hdDisk s start sectors ro id backing =
@@ -61,7 +64,7 @@ abbrev pub queueWords : Queue → ℕ → ℕ → ℕ → List ℕ
 queueWords q chain stage start = q .size ∷ q .desc ∷ q .avail ∷ q .used ∷ chain ∷ stage ∷ start ∷ start ∷ (rowWords (rowOf Poll) ++ (0 ∷ []))
 
 unfoldable pub queueSet : List ℕ → Queue → ℕ → ℕ → ℕ → List ℕ
-queueSet s q chain stage start = put (set s 0 3) 34 (queueWords q chain stage start)
+queueSet s q chain stage start = put (set s levelWord 3) sizeWord (queueWords q chain stage start)
 
 unfoldable pub enabledWith : List ℕ → ℕ → ℕ → ℕ → Areas → Set
 enabledWith s chain stage start (Refused n) = told n s
@@ -78,7 +81,7 @@ hdEnableAt s size desc avail used chain stage start =
 
 -- hd_reset: "40 · 0". The queue is not enabled any more; memory and disk stay.
 unfoldable pub hdReset : List ℕ → Set
-hdReset s = pick (ltb (length s) stateWords) (told 40 s) (told 0 (pick (eqb (level s) 3) (set s 0 2) s))
+hdReset s = pick (ltb (length s) stateWords) (told 40 s) (told 0 (pick (eqb (level s) 3) (set s levelWord 2) s))
 
 -- hd_status: enabled · broken reason · taken · answered · the step that comes next · head · descriptors fetched · bytes fetched.
 -- "The last three are 0 where there is no request at hand"; after a break they speak of the request that broke the queue.
@@ -111,7 +114,7 @@ unseen = seen 0 0 0 0 0 0
 unfoldable pub statusWords : Bool → List ℕ → List ℕ
 statusWords more s =
     pick (eqb (level s) 3)
-    (shown 1 (getD s 40 0) (getD s 41 0) (seenOf (phaseOf (rowAt s))) ++ pick more (shownMore (getD s 52 0) (seenOf (phaseOf (rowAt s)))) [])
+    (shown 1 (getD s takenWord 0) (getD s answeredWord 0) (seenOf (phaseOf (rowAt s))) ++ pick more (shownMore (getD s descsWord 0) (seenOf (phaseOf (rowAt s)))) [])
     (shown 0 0 0 unseen ++ pick more (shownMore 0 unseen) [])
 
 -- "40 state too short · 45 out too short (fewer than 8) · 0 and the words"; `state` is what out holds afterwards
@@ -145,7 +148,7 @@ isBroken (Broken reason head count at) = true
 -- "The slices of hd_step must be at least as long as set-up was told"
 unfoldable pub longEnough : List ℕ → ℕ → ℕ → ℕ → ℕ → Bool
 longEnough s mem backing chain stage =
-    both (leb (getD s 1 0) mem) (both (leb (getD s 30 0) backing) (both (leb (getD s 38 0) chain) (leb (getD s 39 0) stage)))
+    both (leb (getD s memLenWord 0) mem) (both (leb (getD s backingLenWord 0) backing) (both (leb (getD s chainLenWord 0) chain) (leb (getD s stageLenWord 0) stage)))
 
 unfoldable pub stepped : List ℕ → Out → Called
 stepped s o =
@@ -161,7 +164,7 @@ stepped s o =
 -- a step of the model on these words
 unfoldable pub steppedOn : List ℕ → List ℕ → List ℕ → List ℕ → List ℕ → Called
 steppedOn s mem backing chain stage =
-    stepped s (step (cfgOf (configAt s) (mapWords s)) (stateOf (getD s 40 0) (getD s 41 0) (getD s 52 0) (phaseOf (rowAt s))) mem backing chain stage)
+    stepped s (step (cfgOf (configAt s) (mapWords s)) (stateOf (getD s takenWord 0) (getD s answeredWord 0) (getD s descsWord 0) (phaseOf (rowAt s))) mem backing chain stage)
 
 -- what a step on words stands on: they passed every test
 pub record Going (s : List ℕ) (p : Phase) (mem backing : ℕ) (chain : List ℕ) (stage : ℕ) : Type 0 where
@@ -169,18 +172,18 @@ pub record Going (s : List ℕ) (p : Phase) (mem backing : ℕ) (chain : List �
   pub enabled : level s ≡ 3
   pub phase-is : p ≡ phaseOf (rowAt s)
   pub slices-long : longEnough s mem backing (length chain) stage ≡ true
-  pub chain-ready : ready (getD s 1 0) chain p ≡ true
+  pub chain-ready : ready (getD s memLenWord 0) chain p ≡ true
 
 -- what a phase's own function stands on: words that are an enabled queue's but for the phase, whose number this is, and slices that are long enough
 pub record Framed (s : List ℕ) (tag mem backing chain stage : ℕ) : Type 0 where
   pub words-long : stateWords ≤ length s
   pub frame : framed s ≡ true
-  pub tag-is : getD s 42 0 ≡ tag
+  pub tag-is : getD s tagWord 0 ≡ tag
   pub slices-long : longEnough s mem backing chain stage ≡ true
 
 -- "3 the queue is broken"; other words with no step to take are none that steps make
 unfoldable pub brokenCode : List ℕ → ℕ
-brokenCode s = pick (both (eqb (getD s 42 0) 8) (sane (getD s 34 0) 0 (Broken (getD s 48 0) (getD s 43 0) (getD s 44 0) (getD s 49 0)))) 3 4
+brokenCode s = pick (both (eqb (getD s tagWord 0) 8) (sane (getD s sizeWord 0) 0 (Broken (getD s aWord 0) (getD s headWord 0) (getD s countWord 0) (getD s bWord 0)))) 3 4
 
 -- hd_step: "4 refused: not enabled, or the state is not one that set-up and steps make · 3 the queue is broken (nothing touched)
 -- · 4 refused: a slice is shorter than set-up was told (nothing touched) · 0 · 1 · 2 · 3 broken in this step"
@@ -190,7 +193,7 @@ hdStep s mem backing chain stage =
     (pick (eqb (level s) 3)
     (pick (isBroken (phaseOf (rowAt s))) (untouched 3 s mem backing chain stage)
     (pick (longEnough s (length mem) (length backing) (length chain) (length stage))
-    (pick (ready (getD s 1 0) chain (phaseOf (rowAt s)))
+    (pick (ready (getD s memLenWord 0) chain (phaseOf (rowAt s)))
     (steppedOn s mem backing chain stage)
     (untouched 4 s mem backing chain stage))
     (untouched 4 s mem backing chain stage)))

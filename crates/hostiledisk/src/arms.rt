@@ -8,6 +8,7 @@ ghost use Rattle.model.specs.Step.{codeAfter};
 ghost use Rattle.words.specs.Layout.{stateWords, kept};
 ghost use Rattle.hostiledisk.specs.Calls.{hdStep, Framed, StepIs};
 use model::Phase;
+use words::at;
 
 // A step that publishes nothing: the counters stay, and the answer goes by the phase.
 fn finish(state: &mut [usize], p: Phase) -> usize
@@ -25,7 +26,7 @@ pub fn poll(state: &mut [usize], mem: &[u8], backing: &[u8], chain: &[usize], st
     ensures { λ r. ⌜ StepIs (hdStep (now (state .entry)) (now (mem .entry)) (now (backing .entry)) (now (chain .entry)) (now (stage .entry))) r (now (state .exit)) (now (mem .entry)) (now (backing .entry)) (now (chain .entry)) (now (stage .entry)) ⌝ }
 {
     let q = words::queue_at(state);
-    let p = device::poll(q, state[40], mem);
+    let p = device::poll(q, state[at::TAKEN], mem);
     finish(state, p)
 }
 
@@ -41,7 +42,7 @@ pub fn entry(
     ensures { λ r. ⌜ StepIs (hdStep (now (state .entry)) (now (mem .entry)) (now (backing .entry)) (now (chain .entry)) (now (stage .entry))) r (now (state .exit)) (now (mem .entry)) (now (backing .entry)) (now (chain .entry)) (now (stage .entry)) ⌝ }
 {
     let q = words::queue_at(state);
-    let p = device::entry(q, state[40], mem);
+    let p = device::entry(q, state[at::TAKEN], mem);
     if let Phase::Chain(k, head) = p {
         words::save_chain(state, k, head);
         return 1;
@@ -61,18 +62,27 @@ pub fn descriptor(
     ensures { λ r. ⌜ StepIs (hdStep (now (state .entry)) (now (mem .entry)) (now (backing .entry)) (now (chain .entry)) (now (stage .entry))) r (now (state .exit)) (now (mem .entry)) (now (backing .entry)) (now (chain .exit)) (now (stage .entry)) ⌝ }
 {
     let k = words::walk_at(state);
-    let cur = state[48];
-    if sane::chain_sane(state[34], k, cur) {
+    let cur = state[at::A];
+    if sane::chain_sane(state[at::SIZE], k, cur) {
         let q = words::queue_at(state);
-        let n = state[2];
-        let end = 3 + 3 * n;
-        let x = device::descriptor(q, &state[3..end], state[1], k, cur, state[52], mem, chain);
+        let n = state[at::REGIONS];
+        let end = at::MAP + 3 * n;
+        let x = device::descriptor(
+            q,
+            &state[at::MAP..end],
+            state[at::MEM_LEN],
+            k,
+            cur,
+            state[at::DESCS],
+            mem,
+            chain,
+        );
         let p = x.phase;
         if let Phase::Chain(more, next) = p {
             words::save_chain(state, more, next);
             return 1;
         }
-        state[52] = x.descs;
+        state[at::DESCS] = x.descs;
         return finish(state, p);
     }
     4
@@ -91,9 +101,9 @@ pub fn header(
 {
     let k = words::walk_at(state);
     let at = words::place_at(state);
-    let got = state[51];
-    if sane::header_sane(state[34], k, at, got) {
-        if sane::place_ok(state[1], chain, at) {
+    let got = state[at::D];
+    if sane::header_sane(state[at::SIZE], k, at, got) {
+        if sane::place_ok(state[at::MEM_LEN], chain, at) {
             let d = words::disk_at(state);
             let p = device::gather::header(d, k, at, got, chain, mem, stage);
             return finish(state, p);
@@ -116,10 +126,10 @@ pub fn payload(
 {
     let k = words::walk_at(state);
     let at = words::place_at(state);
-    let sector = state[50];
-    let got = state[51];
-    if sane::payload_sane(state[34], state[28], k, at, sector, got) {
-        if sane::payload_ready(state[1], chain, k, at, got) {
+    let sector = state[at::C];
+    let got = state[at::D];
+    if sane::payload_sane(state[at::SIZE], state[at::SECTORS], k, at, sector, got) {
+        if sane::payload_ready(state[at::MEM_LEN], chain, k, at, got) {
             let d = words::disk_at(state);
             let p = device::gather::payload(d, k, at, sector, got, chain, mem, stage, backing);
             if let Phase::Payload(same, next, to, more) = p {
@@ -144,23 +154,23 @@ pub fn answer(
     requires { ⌜ Framed (now state) 6 (length (now mem)) (length (now backing)) (length (now chain)) (length (now stage)) ⌝ }
     ensures { λ r. ⌜ StepIs (hdStep (now (state .entry)) (now (mem .entry)) (now (backing .entry)) (now (chain .entry)) (now (stage .entry))) r (now (state .exit)) (now (mem .exit)) (now (backing .entry)) (now (chain .entry)) (now (stage .entry)) ⌝ }
 {
-    if 5 < state[48] {
+    if 5 < state[at::A] {
         return 4;
     }
     let k = words::walk_at(state);
-    let job = words::job_of(state[48], state[50]);
-    let got = state[51];
-    if sane::answer_sane(state[34], state[28], k, job, got) {
-        if sane::answer_ready(state[1], chain, k) {
+    let job = words::job_of(state[at::A], state[at::C]);
+    let got = state[at::D];
+    if sane::answer_sane(state[at::SIZE], state[at::SECTORS], k, job, got) {
+        if sane::answer_ready(state[at::MEM_LEN], chain, k) {
             let q = words::queue_at(state);
             let d = words::disk_at(state);
             answer::reply(
                 q,
                 d,
-                state[31],
-                state[32],
-                state[33],
-                state[41],
+                state[at::ID0],
+                state[at::ID1],
+                state[at::ID2],
+                state[at::ANSWERED],
                 k,
                 job,
                 chain,
@@ -187,12 +197,12 @@ pub fn publish(
     ensures { λ r. ⌜ StepIs (hdStep (now (state .entry)) (now (mem .entry)) (now (backing .entry)) (now (chain .entry)) (now (stage .entry))) r (now (state .exit)) (now (mem .exit)) (now (backing .entry)) (now (chain .entry)) (now (stage .entry)) ⌝ }
 {
     let k = words::walk_at(state);
-    let got = state[51];
-    if sane::publish_sane(state[34], k, got) {
+    let got = state[at::D];
+    if sane::publish_sane(state[at::SIZE], k, got) {
         let q = words::queue_at(state);
-        let taken = state[40];
-        let answered = state[41];
-        let descs = state[52];
+        let taken = state[at::TAKEN];
+        let answered = state[at::ANSWERED];
+        let descs = state[at::DESCS];
         device::publish(q, answered, mem);
         words::save(
             state,

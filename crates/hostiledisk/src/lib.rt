@@ -6,6 +6,7 @@ ghost use Prim.Native.Nat.{_≤_};
 ghost use lib.ListN.{length};
 ghost use Rattle.hostiledisk.specs.Calls.{chainWords, hdMemory, hdDisk, hdEnableAt, hdReset, hdStatus, hdStep, StepIs};
 ghost use Rattle.words.specs.Layout.{stateWords};
+use words::at;
 
 pub mod arms;
 pub mod set_up;
@@ -23,7 +24,8 @@ pub struct Seen {
     pub at: usize,
 }
 
-const STATE_WORDS: usize = 53;
+// As many whatever the queue's size: a chain lies in memory of its own.
+pub const STATE_WORDS: usize = at::STATE_WORDS;
 
 // Words of state that the host lends for a device.
 #[no_mangle]
@@ -150,7 +152,7 @@ pub extern "C" fn hd_reset(state: &mut [usize]) -> usize
         return 40;
     }
     if words::level(state) == 3 {
-        state[0] = 2;
+        state[at::LEVEL] = 2;
         return 0;
     }
     0
@@ -186,7 +188,7 @@ pub extern "C" fn hd_step(
         return 4;
     }
     if words::framed(state) {
-        let tag = state[42];
+        let tag = state[at::TAG];
         if 8 <= tag {
             return stepping::broken(state);
         }

@@ -5,23 +5,24 @@ ghost use mathlib.Core.List.{_∷_};
 ghost use Prim.Native.Nat.{_+_, _*_, _/_, _≤_};
 ghost use lib.ListN.{length};
 ghost use Rattle.model.specs.Bytes.{put};
-ghost use Rattle.model.specs.Memory.{regions};
+ghost use Rattle.model.specs.Memory.{regions, regionsMax};
 ghost use Rattle.model.specs.Ring.{areas};
 ghost use Rattle.words.specs.Layout.{stateWords, memoryOk, mapWords};
-ghost use Rattle.hostiledisk.specs.Calls.{flag, diskSet, queueSet, enabledWith};
+ghost use Rattle.hostiledisk.specs.Calls.{flag, memorySet, diskSet, queueSet, enabledWith};
 use model::Areas;
 use model::Phase;
 use model::Queue;
+use words::at;
 
 pub fn note_memory(state: &mut [usize], map: &[usize], m: usize)
     requires { ⌜ stateWords ≤ length (now state) ⌝ }
-    requires { ⌜ length (now map) ≤ 24 ⌝ }
-    ensures { λ _. ⌜ now (state .exit) ≡ put (now (state .entry)) 0 (1 ∷ m ∷ (length (now (map .entry)) / 3) ∷ now (map .entry)) ⌝ }
+    requires { ⌜ length (now map) ≤ 3 * regionsMax ⌝ }
+    ensures { λ _. ⌜ now (state .exit) ≡ memorySet (now (state .entry)) (now (map .entry)) m ⌝ }
 {
-    state[0] = 1;
-    state[1] = m;
-    state[2] = map.len() / 3;
-    regions::keep(state, 3, map);
+    state[at::LEVEL] = 1;
+    state[at::MEM_LEN] = m;
+    state[at::REGIONS] = map.len() / 3;
+    regions::keep(state, at::MAP, map);
 }
 
 fn flag(n: usize) -> usize
@@ -45,14 +46,14 @@ pub fn note_disk(
     requires { ⌜ length (now id) ≡ 20 ⌝ }
     ensures { λ _. ⌜ now (state .exit) ≡ diskSet (now (state .entry)) start sectors ro (now (id .entry)) backing ⌝ }
 {
-    state[0] = 2;
-    state[27] = start;
-    state[28] = sectors;
-    state[29] = flag(ro);
-    state[30] = backing;
-    state[31] = wire::get64(id, 0);
-    state[32] = wire::get64(id, 8);
-    state[33] = wire::get32(id, 16);
+    state[at::LEVEL] = 2;
+    state[at::START] = start;
+    state[at::SECTORS] = sectors;
+    state[at::RO] = flag(ro);
+    state[at::BACKING_LEN] = backing;
+    state[at::ID0] = wire::get64(id, 0);
+    state[at::ID1] = wire::get64(id, 8);
+    state[at::ID2] = wire::get32(id, 16);
 }
 
 // Where the areas of a queue would lie in the registered memory.
@@ -61,22 +62,29 @@ pub fn areas(state: &[usize], size: usize, desc: usize, avail: usize, used: usiz
     requires { ⌜ memoryOk (now state) ≡ true ⌝ }
     ensures { λ r. ⌜ r ≡ areas (regions (mapWords (now (state .entry)))) size desc avail used ⌝ }
 {
-    let n = state[2];
-    let end = 3 + 3 * n;
-    ring::areas(&state[3..end], state[1], size, desc, avail, used)
+    let n = state[at::REGIONS];
+    let end = at::MAP + 3 * n;
+    ring::areas(
+        &state[at::MAP..end],
+        state[at::MEM_LEN],
+        size,
+        desc,
+        avail,
+        used,
+    )
 }
 
 fn note_queue(state: &mut [usize], q: Queue, chain: usize, stage: usize, start: usize)
     requires { ⌜ stateWords ≤ length (now state) ⌝ }
     ensures { λ _. ⌜ now (state .exit) ≡ queueSet (now (state .entry)) q chain stage start ⌝ }
 {
-    state[0] = 3;
-    state[34] = q.size;
-    state[35] = q.desc;
-    state[36] = q.avail;
-    state[37] = q.used;
-    state[38] = chain;
-    state[39] = stage;
+    state[at::LEVEL] = 3;
+    state[at::SIZE] = q.size;
+    state[at::DESC] = q.desc;
+    state[at::AVAIL] = q.avail;
+    state[at::USED] = q.used;
+    state[at::CHAIN_LEN] = chain;
+    state[at::STAGE_LEN] = stage;
     words::save(state, start, start, 0, Phase::Poll);
 }
 

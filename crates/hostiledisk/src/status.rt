@@ -13,6 +13,7 @@ ghost use Rattle.words.specs.Layout.{stateWords};
 use crate::Seen;
 use model::Phase;
 use model::Walk;
+use words::at;
 
 fn seen(reason: usize, step: usize, head: usize, count: usize, bytes: usize, at: usize) -> Seen
     ensures { λ z. ⌜ z ≡ seen reason step head count bytes at ⌝ }
@@ -82,8 +83,15 @@ pub fn write(state: &[usize], out: &mut [usize])
 {
     if words::level(state) == 3 {
         let p = words::phase_of(words::row_at(state));
-        let x = seen_of(state[34], state[28], p);
-        show_all(out, 1, state[40], state[41], state[52], x);
+        let x = seen_of(state[at::SIZE], state[at::SECTORS], p);
+        show_all(
+            out,
+            1,
+            state[at::TAKEN],
+            state[at::ANSWERED],
+            state[at::DESCS],
+            x,
+        );
         return;
     }
     show_all(out, 0, 0, 0, 0, seen(0, 0, 0, 0, 0, 0));

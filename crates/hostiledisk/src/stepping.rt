@@ -6,6 +6,7 @@ ghost use lib.ListN.{length};
 ghost use Rattle.words.specs.Layout.{stateWords, framed};
 ghost use Rattle.hostiledisk.specs.Calls.{longEnough, brokenCode, hdStep, Framed, StepIs};
 use crate::arms;
+use words::at;
 
 // A queue that steps have broken answers 3, and stays as it is.
 pub fn broken(state: &[usize]) -> usize
@@ -13,8 +14,14 @@ pub fn broken(state: &[usize]) -> usize
     requires { ⌜ framed (now state) ≡ true ⌝ }
     ensures { λ r. ⌜ r ≡ brokenCode (now (state .entry)) ⌝ }
 {
-    if state[42] == 8 {
-        if sane::broken_sane(state[34], state[48], state[43], state[44], state[49]) {
+    if state[at::TAG] == 8 {
+        if sane::broken_sane(
+            state[at::SIZE],
+            state[at::A],
+            state[at::HEAD],
+            state[at::COUNT],
+            state[at::B],
+        ) {
             return 3;
         }
         return 4;
@@ -27,16 +34,16 @@ pub fn long_enough(state: &[usize], mem: usize, backing: usize, chain: usize, st
     requires { ⌜ stateWords ≤ length (now state) ⌝ }
     ensures { λ r. ⌜ r ≡ longEnough (now (state .entry)) mem backing chain stage ⌝ }
 {
-    if mem < state[1] {
+    if mem < state[at::MEM_LEN] {
         return false;
     }
-    if backing < state[30] {
+    if backing < state[at::BACKING_LEN] {
         return false;
     }
-    if chain < state[38] {
+    if chain < state[at::CHAIN_LEN] {
         return false;
     }
-    state[39] <= stage
+    state[at::STAGE_LEN] <= stage
 }
 
 // The step itself: each phase's function tests its own words.

@@ -1,9 +1,11 @@
 -- The edges of 01 §1 as theorems: each is the definitions, computed. The program `vectors` runs the same edges through the code.
 use Prim.Native.Nat.{ℕ, zero, suc, _-_, _^_}
+use mathlib.Core.Bool.{true, false}
 use mathlib.Core.Path.{_≡_, refl}
 use mathlib.Core.List.{List, [], _∷_}
 use Rattle.model.specs.Bytes.{put, word, bytes}
 use Rattle.model.specs.Memory.{regions, regionCode, overlap, clash, regionsCode, memoryCode, contains, locate}
+use Rattle.model.specs.Ring.{among, sizeOk}
 use Rattle.model.specs.declared.Found.the-variants.{At, Nothing}
 
 -- the region of 01 §6: guest 0x80000000, 65,536 bytes, at the slice's start
@@ -86,11 +88,18 @@ pub shared-slice-bytes : memoryCode 4096 (4096 ∷ 4096 ∷ 0 ∷ 16384 ∷ 4096
 unfolding regions regionCode overlap clash regionsCode memoryCode
 shared-slice-bytes = refl
 
--- 0 regions and 9 are refused, 8 are not; nor are four words any number of regions
-pub one-to-eight :
-    (memoryCode 1 (single 0) ≡ 20) × (memoryCode 1 (single 8) ≡ 0) × (memoryCode 1 (single 9) ≡ 20) × (memoryCode 1 (0 ∷ 1 ∷ 0 ∷ 1 ∷ []) ≡ 20)
+-- 0 regions and 33 are refused, 32 are not; nor are four words any number of regions
+pub one-to-most :
+    (memoryCode 1 (single 0) ≡ 20) × (memoryCode 1 (single 32) ≡ 0) × (memoryCode 1 (single 33) ≡ 20) × (memoryCode 1 (0 ∷ 1 ∷ 0 ∷ 1 ∷ []) ≡ 20)
 unfolding regions regionCode overlap clash regionsCode memoryCode
-one-to-eight = (refl, refl, refl, refl)
+one-to-most = (refl, refl, refl, refl)
+
+-- queues of 1, 512 and 1,024 are allowed; none of 0, 3, 1,023 or 2,048
+pub sizes-are :
+    (sizeOk 1 ≡ true) × (sizeOk 512 ≡ true) × (sizeOk 1024 ≡ true) × (sizeOk 0 ≡ false) × (sizeOk 3 ≡ false) × (sizeOk 1023 ≡ false)
+    × (sizeOk 2048 ≡ false)
+unfolding among sizeOk
+sizes-are = (refl, refl, refl, refl, refl, refl, refl)
 
 -- lowest byte first, both ways: 0x01020304 and 04 03 02 01
 pub lowest-first : (bytes 4 16909060 ≡ 4 ∷ 3 ∷ 2 ∷ 1 ∷ []) × (word 4 1 (9 ∷ 4 ∷ 3 ∷ 2 ∷ 1 ∷ 9 ∷ []) ≡ 16909060)

@@ -11,10 +11,10 @@ use lib.Dec.{leb, ltb, eqb}
 use lib.Seq.{drop-cons}
 use borrow.Author.Tests.{leb-true, ltb-true, ltb-false, eqb-true, eqb-false, eq-eqb, ne-eqb, le-leb, lt-leb}
 use Rattle.model.specs.Pick.{pick, both}
-use Rattle.model.specs.Memory.{Region, region, regions, regionCode, overlap, clash, regionsCode, memoryCode, sound, contains, locate}
+use Rattle.model.specs.Memory.{Region, region, regions, regionCode, overlap, clash, regionsCode, memoryCode, sound, contains, locate, regionsMax}
 use Rattle.model.specs.declared.Found.{Found}
 use Rattle.model.specs.declared.Found.the-variants.{At, Nothing}
-use Rattle.model.proofs.Tests.{told, on, passed, both-l, both-r}
+use Rattle.model.proofs.Tests.{told, on, passed, both-l, both-r, both-split}
 use Rattle.model.proofs.Lists.{Disjoint, first, after}
 
 -- the region whose words begin at place i
@@ -142,14 +142,24 @@ code-sound m seen (r ∷ rest) e = split (eqb (regionCode m r) 0) refl (clash se
     split true t false k f = f k
     split false t d k f = absurd (eqb-false (regionCode m r) 0 t k)
 
-pub memory-sound : (m : ℕ) (words : List ℕ) → memoryCode m words ≡ 0 → sound m (regions words) ≡ true
+-- .. and tells how many words there are: three for each region, and no more regions than there may be
+pub record Mapped (m : ℕ) (words : List ℕ) : Type 0 where
+  pub threes : length words % 3 ≡ 0
+  pub some : 1 ≤ length words / 3
+  pub few : length words / 3 ≤ regionsMax
+  pub each-sound : sound m (regions words) ≡ true
+
+pub mapped : (m : ℕ) (words : List ℕ) → memoryCode m words ≡ 0 → Mapped m words
 unfolding memoryCode
-memory-sound m words e =
-    split (both (eqb (length words % 3) 0) (both (leb 1 (length words / 3)) (leb (length words / 3) 8))) e
+mapped m words e = split (both (eqb (length words % 3) 0) (both (leb 1 (length words / 3)) (leb (length words / 3) regionsMax))) refl e
   where
-    split : (b : Bool) → pick b (regionsCode m [] (regions words)) 20 ≡ 0 → sound m (regions words) ≡ true
-    split true k = code-sound m [] (regions words) k
-    split false k = absurd (omega arith)
+    split : (b : Bool) → both (eqb (length words % 3) 0) (both (leb 1 (length words / 3)) (leb (length words / 3) regionsMax)) ≡ b
+        → pick b (regionsCode m [] (regions words)) 20 ≡ 0 → Mapped m words
+    split true t k =
+        let a = both-split (eqb (length words % 3) 0) (both (leb 1 (length words / 3)) (leb (length words / 3) regionsMax)) t in
+        let b = both-split (leb 1 (length words / 3)) (leb (length words / 3) regionsMax) (a .1) in
+        record { threes = omega told; some = omega told; few = omega told; each-sound = code-sound m [] (regions words) k }
+    split false t k = absurd (omega arith)
 
 -- what `overlap` means: no address in common ..
 pub overlap-false : (g l h k : ℕ) → overlap g l h k ≡ false → Disjoint g l h k

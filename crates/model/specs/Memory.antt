@@ -43,10 +43,14 @@ regionsCode m seen [] = 0
 regionsCode m seen (r ∷ rest) =
     pick (eqb (regionCode m r) 0) (pick (clash seen (r .guest) (r .len)) 24 (regionsCode m (seen ++ (r ∷ [])) rest)) (regionCode m r)
 
--- "1 to 8 regions .. refuses another number of regions (answer 20)"; a number of words that is no multiple of 3 is 20 too
+-- the most regions that a map may have (DEV-13)
+abbrev pub regionsMax : ℕ
+regionsMax = 32
+
+-- "1 to" that many "regions .. refuses another number of regions (answer 20)"; a number of words that is no multiple of 3 is 20 too
 unfoldable pub memoryCode : ℕ → List ℕ → ℕ
 memoryCode m words =
-    pick (both (eqb (length words % 3) 0) (both (leb 1 (length words / 3)) (leb (length words / 3) 8))) (regionsCode m [] (regions words)) 20
+    pick (both (eqb (length words % 3) 0) (both (leb 1 (length words / 3)) (leb (length words / 3) regionsMax))) (regionsCode m [] (regions words)) 20
 
 -- each region by itself is one that set-up allows
 unfoldable pub sound : ℕ → List Region → Bool

@@ -1,7 +1,7 @@
 -- The ring (01 §2, §3): the three areas, what enabling refuses, the two counters, and S1, S2.
 use Prim.Native.Nat.{ℕ, _+_, _-_, _*_, _%_}
 use mathlib.Core.Bool.{Bool, true, false}
-use mathlib.Core.List.{List}
+use mathlib.Core.List.{List, [], _∷_}
 use lib.Dec.{leb, ltb, eqb}
 use Rattle.model.specs.Pick.{pick, both, either}
 use Rattle.model.specs.Memory.{Region, locate, overlap}
@@ -13,11 +13,19 @@ use Rattle.model.specs.declared.Walk.{Walk}
 use Rattle.model.specs.declared.Phase.{Phase}
 use Rattle.model.specs.declared.Phase.the-variants.{Poll, Entry, Chain, Broken}
 
--- "a queue of size q, a power of two from 1 to 256"
+-- "a queue of size q, a power of two from 1 to" 1,024 (DEV-13): the sizes, and the largest of them
+abbrev pub sizes : List ℕ
+sizes = 1 ∷ 2 ∷ 4 ∷ 8 ∷ 16 ∷ 32 ∷ 64 ∷ 128 ∷ 256 ∷ 512 ∷ 1024 ∷ []
+
+abbrev pub sizeMax : ℕ
+sizeMax = 1024
+
+unfoldable pub among : ℕ → List ℕ → Bool
+among q [] = false
+among q (n ∷ ns) = either (eqb q n) (among q ns)
+
 unfoldable pub sizeOk : ℕ → Bool
-sizeOk q =
-    either (eqb q 1)
-    (either (eqb q 2) (either (eqb q 4) (either (eqb q 8) (either (eqb q 16) (either (eqb q 32) (either (eqb q 64) (either (eqb q 128) (eqb q 256))))))))
+sizeOk q = among q sizes
 
 -- the table of the areas: their bytes ..
 abbrev pub descBytes : ℕ → ℕ

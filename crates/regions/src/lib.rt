@@ -1,5 +1,5 @@
 // The memory map (01 §1): set-up's refusals 20 to 24, and where a range of guest bytes lies in the slice.
-// Up to 8 regions, three words each in lent memory: guest address, length, offset in the slice.
+// Up to 32 regions (DEV-13), three words each in lent memory: guest address, length, offset in the slice.
 ghost use mathlib.Core.Path.{_≡_};
 ghost use Prim.Native.Nat.{_+_, _≤_};
 ghost use lib.Dec.{eqb};
@@ -8,6 +8,8 @@ ghost use Rattle.model.specs.Bytes.{put};
 ghost use mathlib.Core.Bool.{true};
 ghost use Rattle.model.specs.Memory.{region, regions, regionCode, overlap, clash, memoryCode, sound, contains, locate};
 use model::Found;
+
+pub const REGIONS_MAX: usize = 32;
 
 // 21, 22, 23, or 0. No sum is made: each test subtracts what an earlier one allowed.
 pub fn region_code(m: usize, g: usize, l: usize, o: usize) -> usize
@@ -67,7 +69,7 @@ pub fn memory_code(m: usize, map: &[usize]) -> usize
     if map.len() / 3 < 1 {
         return 20;
     }
-    if 8 < map.len() / 3 {
+    if REGIONS_MAX < map.len() / 3 {
         return 20;
     }
     let mut i = 0;

@@ -6,7 +6,7 @@ ghost use Prim.Native.Nat.{_+_, _*_, _%_, _≤_, _<_};
 ghost use lib.ListN.{length};
 ghost use Rattle.model.specs.Bytes.{put, word, bytes};
 ghost use Rattle.model.specs.Memory.{regions, sound};
-ghost use Rattle.model.specs.Ring.{sizeOk, aligned, entangled, placed, areas, pending, oneMore, polled, headed};
+ghost use Rattle.model.specs.Ring.{sizeOk, aligned, entangled, placed, areas, pending, oneMore, polled, headed, sizeMax};
 ghost use Rattle.model.specs.Step.{usedAt};
 use model::Areas;
 use model::Found;
@@ -14,7 +14,7 @@ use model::Phase;
 use model::Queue;
 use model::Walk;
 
-// A power of two from 1 to 256.
+// A power of two from 1 to 1,024 (DEV-13).
 pub fn size_ok(q: usize) -> bool
     ensures { λ r. ⌜ r ≡ sizeOk q ⌝ }
 {
@@ -42,7 +42,16 @@ pub fn size_ok(q: usize) -> bool
     if q == 128 {
         return true;
     }
-    q == 256
+    if q == 256 {
+        return true;
+    }
+    if q == 512 {
+        return true;
+    }
+    if q == 1024 {
+        return true;
+    }
+    false
 }
 
 fn aligned(desc: usize, avail: usize, used: usize) -> bool
@@ -58,7 +67,7 @@ fn aligned(desc: usize, avail: usize, used: usize) -> bool
 }
 
 fn entangled(q: usize, desc: usize, avail: usize, used: usize) -> bool
-    requires { ⌜ q ≤ 256 ⌝ }
+    requires { ⌜ q ≤ sizeMax ⌝ }
     ensures { λ r. ⌜ r ≡ entangled q desc avail used ⌝ }
 {
     if regions::overlaps(used, 6 + 8 * q, avail, 6 + 2 * q) {

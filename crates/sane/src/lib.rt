@@ -3,6 +3,7 @@ ghost use mathlib.Core.Path.{_≡_};
 ghost use mathlib.Core.Bool.{true};
 ghost use Prim.Native.Nat.{_+_, _-_, _*_, _≤_, _<_};
 ghost use lib.ListN.{length};
+ghost use Rattle.model.specs.Ring.{sizeMax};
 ghost use Rattle.model.specs.Sane.{walkOk, fullOk, jobOk, refusedAt, sane, inside, allInside, placeOk, ready};
 ghost use Rattle.model.specs.Step.{spans};
 use model::Job;
@@ -11,7 +12,7 @@ use model::Place;
 use model::Walk;
 
 pub fn walk_ok(q: usize, k: Walk) -> bool
-    requires { ⌜ q ≤ 256 ⌝ }
+    requires { ⌜ q ≤ sizeMax ⌝ }
     ensures { λ z. ⌜ z ≡ walkOk q k ⌝ }
 {
     if q <= k.head {
@@ -30,7 +31,7 @@ pub fn walk_ok(q: usize, k: Walk) -> bool
 }
 
 pub fn full_ok(q: usize, k: Walk) -> bool
-    requires { ⌜ q ≤ 256 ⌝ }
+    requires { ⌜ q ≤ sizeMax ⌝ }
     ensures { λ z. ⌜ z ≡ fullOk q k ⌝ }
 {
     if walk_ok(q, k) {
@@ -57,7 +58,7 @@ fn job_ok(sectors: usize, k: Walk, job: Job) -> bool
 }
 
 pub fn chain_sane(q: usize, k: Walk, cur: usize) -> bool
-    requires { ⌜ q ≤ 256 ⌝ }
+    requires { ⌜ q ≤ sizeMax ⌝ }
     ensures { λ z. ⌜ z ≡ sane q 0 (Phase.Chain k cur) ⌝ }
 {
     if walk_ok(q, k) {
@@ -67,7 +68,7 @@ pub fn chain_sane(q: usize, k: Walk, cur: usize) -> bool
 }
 
 pub fn header_sane(q: usize, k: Walk, p: Place, got: usize) -> bool
-    requires { ⌜ q ≤ 256 ⌝ }
+    requires { ⌜ q ≤ sizeMax ⌝ }
     ensures { λ z. ⌜ z ≡ sane q 0 (Phase.Header k p got) ⌝ }
 {
     if full_ok(q, k) {
@@ -83,7 +84,7 @@ pub fn header_sane(q: usize, k: Walk, p: Place, got: usize) -> bool
 }
 
 pub fn payload_sane(q: usize, sectors: usize, k: Walk, p: Place, s: usize, got: usize) -> bool
-    requires { ⌜ q ≤ 256 ⌝ }
+    requires { ⌜ q ≤ sizeMax ⌝ }
     ensures { λ z. ⌜ z ≡ sane q sectors (Phase.Payload k p s got) ⌝ }
 {
     if full_ok(q, k) {
@@ -102,7 +103,7 @@ pub fn payload_sane(q: usize, sectors: usize, k: Walk, p: Place, s: usize, got: 
 }
 
 pub fn answer_sane(q: usize, sectors: usize, k: Walk, job: Job, got: usize) -> bool
-    requires { ⌜ q ≤ 256 ⌝ }
+    requires { ⌜ q ≤ sizeMax ⌝ }
     ensures { λ z. ⌜ z ≡ sane q sectors (Phase.Answer k job got) ⌝ }
 {
     if full_ok(q, k) {
@@ -115,7 +116,7 @@ pub fn answer_sane(q: usize, sectors: usize, k: Walk, job: Job, got: usize) -> b
 }
 
 pub fn publish_sane(q: usize, k: Walk, got: usize) -> bool
-    requires { ⌜ q ≤ 256 ⌝ }
+    requires { ⌜ q ≤ sizeMax ⌝ }
     ensures { λ z. ⌜ z ≡ sane q 0 (Phase.Publish k got) ⌝ }
 {
     if full_ok(q, k) {
@@ -135,7 +136,7 @@ fn refused_at(q: usize, count: usize, at: usize) -> bool
 }
 
 pub fn broken_sane(q: usize, reason: usize, head: usize, count: usize, at: usize) -> bool
-    requires { ⌜ q ≤ 256 ⌝ }
+    requires { ⌜ q ≤ sizeMax ⌝ }
     ensures { λ z. ⌜ z ≡ sane q 0 (Phase.Broken reason head count at) ⌝ }
 {
     if reason < 1 {
@@ -155,7 +156,7 @@ pub fn broken_sane(q: usize, reason: usize, head: usize, count: usize, at: usize
 
 // Is this a phase that steps make, on a queue of size q and a disk of so many sectors?
 pub fn sane(q: usize, sectors: usize, p: Phase) -> bool
-    requires { ⌜ q ≤ 256 ⌝ }
+    requires { ⌜ q ≤ sizeMax ⌝ }
     ensures { λ z. ⌜ z ≡ sane q sectors p ⌝ }
 {
     match p {

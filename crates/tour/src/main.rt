@@ -120,7 +120,7 @@ fn round(
 }
 
 fn main() {
-    let mut state = [0; 53];
+    let mut state = [0; hostiledisk::STATE_WORDS];
     let mut mem = [0u8; 65536];
     let mut backing = [0u8; 65536];
     let mut stage = [0u8; 1048576];

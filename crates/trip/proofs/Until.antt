@@ -18,7 +18,7 @@ use Rattle.requests.specs.Serve.{Seen, still, Followed, broke, whole, Outcome, 
 use Rattle.requests.specs.Steps.{chainCalls, calls}
 use Rattle.requests.specs.Guest.{again, after, out, codeFor}
 use Rattle.requests.proofs.Serves.{serves-still, quiet-still}
-use Rattle.words.specs.Layout.{configAt, rowAt, phaseOf}
+use Rattle.words.specs.Layout.{configAt, rowAt, phaseOf, takenWord, answeredWord}
 use Rattle.hostiledisk.specs.Calls.{Called, untouched, Going}
 use Rattle.hostiledisk.proofs.Laws.{fit-of}
 use Rattle.guarantees.specs.History.{World, ran, left}
@@ -118,8 +118,8 @@ pub record Stands (c : Cfg) (n : ℕ) (w : World) : Type 0 where
   pub chain-long : 2 * c .queue .size ≤ length (w .chain)
   pub stage-long : 1048576 ≤ length (w .stage)
   pub disk-in : c .disk .start + 512 * c .disk .sectors ≤ length (w .backing)
-  pub taken-low : getD (w .state) 40 0 < 65536
-  pub answered-low : getD (w .state) 41 0 < 65536
+  pub taken-low : getD (w .state) takenWord 0 < 65536
+  pub answered-low : getD (w .state) answeredWord 0 < 65536
   pub id-bytes : Octets (c .id)
 
 pub stands : (c : Cfg) (n : ℕ) (w : World) (s : State) (backing chain stage : List ℕ) → Matches c n w s backing chain stage → Stands c n w

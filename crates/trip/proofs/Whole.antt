@@ -7,6 +7,7 @@ use mathlib.Core.Path.{_≡_, refl, sym, ap, _∙_}
 use lib.Dec.{eqb, leb}
 use lib.ListN.{length, getD, drop, length-drop}
 use borrow.Author.Tests.{eq-eqb, eqb-true}
+use Rattle.words.specs.Layout.{descsWord}
 use Rattle.model.specs.Bytes.{put, part}
 use Rattle.model.specs.Memory.{Region, regions}
 use Rattle.model.specs.Ring.{oneMore}
@@ -259,12 +260,12 @@ module _ (n : ℕ) (d : Driver) (own map : List ℕ) (sector : ℕ) (message buf
   dev = deviceOf (o .state)
 
   dev-stands : DeviceStands dev (length (o .mem)) (left o)
-  dev-stands = stands-of dev (length (o .mem)) (left o) (record { taken = d .next; answered = d .seen; descs = getD (o .state) 52 0; phase = Poll }) (o .backing) (o .chain) (o .stage) (h .at-rest)
+  dev-stands = stands-of dev (length (o .mem)) (left o) (record { taken = d .next; answered = d .seen; descs = getD (o .state) descsWord 0; phase = Poll }) (o .backing) (o .chain) (o .stage) (h .at-rest)
 
   ready₁ : Ready dev n d own (regions map) (asked 1 sector reads₁) message bufs spots nums o
   ready₁ =
       record {
-        descs = getD (o .state) 52 0;
+        descs = getD (o .state) descsWord 0;
         at-rest = h .at-rest;
         same-queue = h .same-queue;
         same-map = h .same-map;

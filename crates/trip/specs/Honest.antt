@@ -7,7 +7,7 @@ use Rattle.model.specs.Memory.{regions}
 use Rattle.model.specs.Step.{Cfg, spans}
 use Rattle.model.specs.declared.Phase.the-variants.{Poll}
 use Rattle.device.specs.Turn.{cfgOf}
-use Rattle.words.specs.Layout.{configAt, mapWords}
+use Rattle.words.specs.Layout.{configAt, mapWords, descsWord}
 use Rattle.requests.specs.Serve.{total}
 use Rattle.requests.specs.Table.{Fit}
 use Rattle.guarantees.specs.Follow.{Matches}
@@ -24,7 +24,7 @@ deviceOf state = cfgOf (configAt state) (mapWords state)
 pub record Honest (state mem backing chain stage : List ℕ) (n : ℕ) (d : Driver) (own map : List ℕ) (sector : ℕ) (message bufs : List ℕ) (reads : ℕ) (header bufs₂ : List ℕ) (reads₂ : ℕ) (out spots nums : List ℕ) : Type 0 where
   -- the words are those of an enabled queue at rest, which has taken and answered as many requests as the driver has laid and read
   pub at-rest : Matches (deviceOf state) (length mem) (record { state = state; backing = backing; chain = chain; stage = stage })
-      (record { taken = d .next; answered = d .seen; descs = getD state 52 0; phase = Poll }) backing chain stage
+      (record { taken = d .next; answered = d .seen; descs = getD state descsWord 0; phase = Poll }) backing chain stage
   -- driver and device mean the same queue and the same memory
   pub same-queue : deviceOf state .queue ≡ d .queue
   pub same-map : deviceOf state .map ≡ regions map

@@ -7,6 +7,7 @@ use mathlib.Core.Path.{_≡_}
 use mathlib.Core.List.{List, _∷_}
 use lib.Dec.{eqb}
 use lib.ListN.{getD}
+use Rattle.model.specs.Ring.{sizeMax}
 use Rattle.model.specs.Memory.{Region, sound, regionCode}
 use Rattle.model.specs.Step.{spans}
 use Rattle.model.specs.declared.Queue.{Queue}
@@ -55,7 +56,7 @@ module _ {q : Queue} {rs : List Region} {m : ℕ} {own : List ℕ} {kind r : ℕ
       let l = locate-slice m rs (getD bufs (2 * i) 0) (getD bufs (2 * i + 1) 0) (getD spots (2 * i) 0) (fit .map-sound) (s .located) in
       record { some = omega (arith, s .len-is); len-is = s .len-is; short = s .short; inside = omega (arith, s .len-is); below = omega arith }
 
-  pub size-in : (1 ≤ q .size) × (q .size ≤ 256)
+  pub size-in : (1 ≤ q .size) × (q .size ≤ sizeMax)
   size-in = size-range (q .size) (fit .size-ok)
 
   -- two different buffers

@@ -1,19 +1,19 @@
 -- Laying a request writes its own descriptors, its readable buffers and one entry of the available ring: so it leaves the requests laid before.
-use Prim.Native.Nat.{ℕ, suc, _+_, _-_, _*_, _%_, _≤_, _<_}
+use Prim.Native.Nat.{ℕ, suc, _+_, _-_, _*_, _/_, _%_, _≤_, _<_}
 use native.Mathlib.Omega.{arith}
-use native.Mathlib.Nat.{mul-suc, mul-le-mul-left}
+use native.Mathlib.Nat.{mul-suc, mul-add, mul-le-mul-left, div-add-mod}
 use mathlib.Core.Bool.{Bool, true, false}
 use mathlib.Core.Path.{_≡_, refl, _∙_}
 use mathlib.Core.List.{List, [], _∷_, _++_}
 use lib.Dec.{ltb, eqb}
 use lib.ListN.{length, getD}
 use borrow.Author.Tests.{ltb-true, ltb-false, eqb-true}
-use Rattle.model.specs.Pick.{either}
 use Rattle.model.specs.Ring.{sizeOk, pending, oneMore}
 use Rattle.model.specs.Bytes.{word, bytes}
 use Rattle.model.specs.Memory.{Region}
 use Rattle.model.specs.Step.{apply, scatter, spans}
 use Rattle.model.specs.declared.Queue.{Queue}
+use Rattle.model.proofs.Ring.{every, size-passes}
 use Rattle.model.proofs.Step.{length-apply}
 use Rattle.model.proofs.Words.{length-bytes, word-put}
 use Rattle.model.proofs.Lists.{Disjoint, first, after}
@@ -37,25 +37,24 @@ steps-apart b w i j ne = go (ltb i j) refl
     go true t = first (step-on b w i j (ltb-true i j t))
     go false t = after (step-on b w j i (omega (arith, ltb-false i j t)))
 
--- a queue's size is one of nine
-size-cases : (P : ℕ → Type 0) (q : ℕ) → P 1 → P 2 → P 4 → P 8 → P 16 → P 32 → P 64 → P 128 → P 256 → sizeOk q ≡ true → P q
-unfolding sizeOk
-size-cases P q a b c d f g h i j =
-    alt 1 a (alt 2 b (alt 4 c (alt 8 d (alt 16 f (alt 32 g (alt 64 h (alt 128 i (λ t. rw (eqb-true q 256 t) j))))))))
+-- two multiples of n are not less than n apart
+rest-apart : (n x y d : ℕ) → n * x + d ≡ n * y → 1 ≤ d → d < n → ⊥
+rest-apart n x y d e l h = go (ltb x y) refl
   where
-    alt : (n : ℕ) {u : Bool} → P n → (u ≡ true → P q) → either (eqb q n) u ≡ true → P q
-    alt n {u = u} p f = split (eqb q n) refl
-      where
-        split : (t : Bool) → eqb q n ≡ t → either t u ≡ true → P q
-        split true t e = rw (eqb-true q n t) p
-        split false t e = f e
+    go : (t : Bool) → ltb x y ≡ t → ⊥
+    go true t = let p : suc x ≤ y = ltb-true x y t in omega (arith, mul-le-mul-left n p, mul-suc n x)
+    go false t = omega (arith, mul-le-mul-left n (ltb-false x y t))
 
 -- two entries of which one is less than a whole queue behind the other are different: all sizes divide 2^16
 elsewhere : (n t nx : ℕ) → sizeOk n ≡ true → t < 65536 → nx < 65536 → 1 ≤ pending nx t → pending nx t < n → t % n ≡ nx % n → ⊥
-unfolding pending
-elsewhere n t nx ok ht hn l =
-    size-cases (λ (k : ℕ). (nx + 65536 - t) % 65536 < k → t % k ≡ nx % k → ⊥) n (λ u e. omega arith) (λ u e. omega arith) (λ u e. omega arith) (λ u e. omega arith)
-    (λ u e. omega arith) (λ u e. omega arith) (λ u e. omega arith) (λ u e. omega arith) (λ u e. omega arith) ok
+unfolding pending every
+elsewhere n t nx ok ht hn l u e =
+    let d = eqb-true (n * (65536 / n)) 65536 (size-passes (λ (m : ℕ). eqb (m * (65536 / m)) 65536) n refl ok) in
+    go (ltb nx t) refl d (div-add-mod t n) (div-add-mod nx n)
+  where
+    go : (b : Bool) → ltb nx t ≡ b → n * (65536 / n) ≡ 65536 → n * (t / n) + t % n ≡ t → n * (nx / n) + nx % n ≡ nx → ⊥
+    go true b d p q = rest-apart n (t / n) (nx / n + 65536 / n) ((nx + 65536 - t) % 65536) (omega (arith, mul-add n (nx / n) (65536 / n), ltb-true nx t b)) l u
+    go false b d p q = rest-apart n (t / n) (nx / n) ((nx + 65536 - t) % 65536) (omega (arith, ltb-false nx t b)) l u
 
 pending-more : (t nx : ℕ) → t < 65536 → nx < 65536 → pending nx t < 65535 → pending (oneMore nx) t ≡ pending nx t + 1
 unfolding pending oneMore

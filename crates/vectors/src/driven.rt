@@ -70,7 +70,7 @@ fn served(
     stage: &mut Stage,
 ) {
     driver::laying::publish(d, mem);
-    let mut state = [0; 53];
+    let mut state = [0; hostiledisk::STATE_WORDS];
     host::set_up(&mut state, read_only, 0);
     host::run(&mut state, mem, backing, stage, false);
     answer(d, own, mem);

@@ -17,18 +17,29 @@ pub fn poke(m: &mut Bytes, k: usize, n: usize, v: usize) {
 }
 
 pub fn descriptor(m: &mut Bytes, i: usize, addr: usize, len: usize, flags: usize, next: usize) {
-    let k = 0x1000 + 16 * (i % 8);
+    write(m, 0x1000 + 16 * (i % 8), addr, len, flags, next);
+}
+
+// A descriptor at place k of the slice, which leaves room for its 16 bytes.
+pub fn write(m: &mut Bytes, k: usize, addr: usize, len: usize, flags: usize, next: usize) {
+    if 65520 < k {
+        return;
+    }
     poke(m, k, 8, addr);
     poke(m, k + 8, 4, len);
     poke(m, k + 12, 2, flags);
     poke(m, k + 14, 2, next);
 }
 
-// The header at 0x80004000 in one readable buffer of r bytes, descriptor 0. One chain is offered: entry 0 is its head, and idx 1.
-pub fn ask(m: &mut Bytes, kind: usize, sector: usize, r: usize) {
+pub fn header(m: &mut Bytes, kind: usize, sector: usize) {
     poke(m, 0x4000, 4, kind);
     poke(m, 0x4004, 4, 0);
     poke(m, 0x4008, 8, sector);
+}
+
+// The header at 0x80004000 in one readable buffer of r bytes, descriptor 0. One chain is offered: entry 0 is its head, and idx 1.
+pub fn ask(m: &mut Bytes, kind: usize, sector: usize, r: usize) {
+    header(m, kind, sector);
     descriptor(m, 0, 0x8000_4000, r, 1, 1);
     offer(m, 0);
 }

@@ -37,7 +37,7 @@ pub fn set_up(state: &mut [usize], read_only: usize, start: usize) {
     set_queue(state, 16, 1048576, start);
 }
 
-fn stops(answer: usize) -> bool {
+pub fn stops(answer: usize) -> bool {
     if answer == 1 {
         return false;
     }

@@ -10,6 +10,8 @@ mod bytes;
 mod driven;
 mod guest;
 mod host;
+mod longest;
+mod many;
 mod ranges;
 mod refusals;
 mod requests;
@@ -41,6 +43,8 @@ fn rows_01(mem: &mut Bytes, backing: &mut Bytes, stage: &mut Stage) {
     v1::wrap(mem, backing, stage);
     table::rows(mem, backing, stage);
     table::eights(mem, backing, stage);
+    longest::chains(mem, backing, stage);
+    many::rows(mem, backing, stage);
 }
 
 // 03 §6.
@@ -66,6 +70,7 @@ fn refused(mem: &mut Bytes, backing: &mut Bytes, stage: &mut Stage) {
     refusals::disks();
     refusals::queues();
     refusals::rooms();
+    longest::lent();
     states::zeros(mem, backing, stage);
     states::enabled(mem, backing, stage);
     states::short(mem, backing, stage);

@@ -10,13 +10,13 @@ pub fn told(name: &[u8], answer: usize) {
 }
 
 fn memory(name: &[u8], map: &[usize]) {
-    let mut state = [0; 53];
+    let mut state = [0; hostiledisk::STATE_WORDS];
     told(name, hostiledisk::hd_memory(&mut state, map, 65536));
 }
 
 pub fn counts() {
     memory(b"hd_memory, no region", &[]);
-    memory(b"hd_memory, nine regions", &[0; 27]);
+    memory(b"hd_memory, 33 regions", &[0; 99]);
     memory(b"hd_memory, four words", &[4096, 16, 0, 8192]);
 }
 
@@ -40,7 +40,7 @@ fn disk_name(i: usize) {
 }
 
 fn disk(i: usize, start: usize, sectors: usize, id: &[u8]) {
-    let mut state = [0; 53];
+    let mut state = [0; hostiledisk::STATE_WORDS];
     host::set_memory(&mut state, 65536);
     let answer = hostiledisk::hd_disk(&mut state, start, sectors, 0, id, 65536);
     disk_name(i);
@@ -60,7 +60,7 @@ pub fn disks() {
 
 fn queue_name(i: usize) {
     let names =
-        b"the queue of 01 \xc2\xa76|size 0|size 3|size 512|descriptors misaligned|available ring misaligned|\
+        b"the queue of 01 \xc2\xa76|size 0|size 3|size 2048|descriptors misaligned|available ring misaligned|\
           used ring misaligned|descriptors to the last byte|descriptors past it|\
           used ring behind available ring|used ring on its end|used ring behind descriptors|\
           used ring on their end|";
@@ -70,7 +70,7 @@ fn queue_name(i: usize) {
 
 // The areas of a queue on the memory of 01 §6.
 fn queue(i: usize, size: usize, desc: usize, avail: usize, used: usize) {
-    let mut state = [0; 53];
+    let mut state = [0; hostiledisk::STATE_WORDS];
     host::set_memory(&mut state, 65536);
     host::set_disk(&mut state, 0, 65536);
     let answer = hostiledisk::hd_enable(&mut state, size, desc, avail, used, 16, 1048576);
@@ -85,7 +85,7 @@ pub fn queues() {
     queue(0, 8, d, a, u);
     queue(1, 0, d, a, u);
     queue(2, 3, d, a, u);
-    queue(3, 512, d, a, u);
+    queue(3, 2048, d, a, u);
     queue(4, 8, 0x8000_1008, a, u);
     queue(5, 8, d, 0x8000_2001, u);
     queue(6, 8, d, a, 0x8000_3002);
@@ -98,7 +98,7 @@ pub fn queues() {
 }
 
 fn room(i: usize, chain: usize, stage: usize, start: usize) {
-    let mut state = [0; 53];
+    let mut state = [0; hostiledisk::STATE_WORDS];
     host::set_memory(&mut state, 65536);
     host::set_disk(&mut state, 0, 65536);
     let answer = host::set_queue(&mut state, chain, stage, start);

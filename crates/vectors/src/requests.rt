@@ -71,7 +71,7 @@ fn name(q: Request) {
 }
 
 fn serve(read_only: usize, mem: &mut Bytes, backing: &mut Bytes, stage: &mut Stage) {
-    let mut state = [0; 53];
+    let mut state = [0; hostiledisk::STATE_WORDS];
     host::set_up(&mut state, read_only, 0);
     host::run(&mut state, mem, backing, stage, false);
 }

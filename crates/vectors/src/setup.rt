@@ -67,12 +67,12 @@ fn fill(map: &mut [usize]) {
 }
 
 pub fn how_many() {
-    let mut map = [0; 27];
+    let mut map = [0; 99];
     fill(&mut map);
     ask(b"none", 1, &map[..0]);
     ask(b"four words", 1, &map[..4]);
-    ask(b"eight", 1, &map[..24]);
-    ask(b"nine", 1, &map[..27]);
+    ask(b"thirty-two", 1, &map[..96]);
+    ask(b"thirty-three", 1, &map[..99]);
 }
 
 pub fn kept() {

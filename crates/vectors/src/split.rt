@@ -66,7 +66,7 @@ pub fn refused(m: &mut Bytes, backing: &mut Bytes, stage: &mut Stage) {
     lay(m);
     guest::poke(m, 0x1048, 4, 0);
     let before = *m;
-    let mut state = [0; 53];
+    let mut state = [0; hostiledisk::STATE_WORDS];
     host::set_up(&mut state, 0, 0);
     say::text(b"OUT, sector 5, len 0 in descriptor 4: ");
     host::run(&mut state, m, backing, stage, false);
@@ -80,7 +80,7 @@ pub fn out(m: &mut Bytes, backing: &mut Bytes, stage: &mut Stage, disk: &Bytes) 
     lay(m);
     laid(m);
     let before = *m;
-    let mut state = [0; 53];
+    let mut state = [0; hostiledisk::STATE_WORDS];
     host::set_up(&mut state, 0, 0);
     host::run(&mut state, m, backing, stage, true);
     answer(m, &before);

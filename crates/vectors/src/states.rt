@@ -62,20 +62,20 @@ fn reset(state: &mut [usize], m: &mut Bytes, b: &mut Bytes, s: &mut Stage) {
 }
 
 pub fn zeros(m: &mut Bytes, b: &mut Bytes, s: &mut Stage) {
-    let mut state = [0; 53];
+    let mut state = [0; hostiledisk::STATE_WORDS];
     say::text(b"A state of zeros:\n");
     calls(&mut state, m, b, s);
 }
 
 pub fn short(m: &mut Bytes, b: &mut Bytes, s: &mut Stage) {
-    let mut state = [0; 52];
-    say::text(b"A state of 52 words:\n");
+    let mut state = [0; hostiledisk::STATE_WORDS - 1];
+    say::text(b"A state of one word too few:\n");
     calls(&mut state, m, b, s);
 }
 
 // Nobody has laid anything into its memory.
 pub fn enabled(m: &mut Bytes, b: &mut Bytes, s: &mut Stage) {
-    let mut state = [0; 53];
+    let mut state = [0; hostiledisk::STATE_WORDS];
     host::set_up(&mut state, 0, 0);
     say::text(b"An enabled queue, idx 0xeeee:\n");
     calls(&mut state, m, b, s);
@@ -108,7 +108,7 @@ fn slice_name(i: usize) {
 pub fn slices(m: &mut Bytes, b: &mut Bytes, s: &mut Stage) {
     let mut i = 0;
     while i < 5 {
-        let mut state = [0; 53];
+        let mut state = [0; hostiledisk::STATE_WORDS];
         told_more(&mut state, i);
         slice_name(i);
         step(b", hd_step", &mut state, m, b, s);

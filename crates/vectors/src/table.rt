@@ -51,7 +51,7 @@ fn cell(k: usize) -> usize {
 // What was laid is run by a fresh device; its data may go to the places from up to to.
 fn play(mem: &mut Bytes, backing: &mut Bytes, stage: &mut Stage, from: usize, to: usize) {
     let before = *mem;
-    let mut state = [0; 53];
+    let mut state = [0; hostiledisk::STATE_WORDS];
     host::set_up(&mut state, 0, 0);
     say::text(b": ");
     host::run(&mut state, mem, backing, stage, false);

@@ -41,7 +41,7 @@ pub fn v1(mem: &mut Bytes, backing: &mut Bytes, stage: &mut Stage) {
     guest::v1(mem);
     laid(mem);
     let before = *mem;
-    let mut state = [0; 53];
+    let mut state = [0; hostiledisk::STATE_WORDS];
     host::set_up(&mut state, 0, 0);
     host::run(&mut state, mem, backing, stage, true);
     answer(mem);
@@ -68,7 +68,7 @@ fn answer_wrap(mem: &Bytes) {
 pub fn wrap(mem: &mut Bytes, backing: &mut Bytes, stage: &mut Stage) {
     lay_wrap(mem);
     let before = *mem;
-    let mut state = [0; 53];
+    let mut state = [0; hostiledisk::STATE_WORDS];
     host::set_up(&mut state, 0, 65535);
     host::run(&mut state, mem, backing, stage, true);
     answer_wrap(mem);

@@ -1,10 +1,13 @@
 -- The state as words that the host lends: what each word holds, and which words set-up and steps make.
+-- DEV-13: "Nothing else of the device's state may grow with q". The number of words is a constant; what a queue's size asks for is chain memory,
+-- which the host lends when it enables the queue. The regions come last, so that no other word's place hangs on how many there may be.
 --    0 how far set-up has come: 0 nothing, 1 memory, 2 disk, 3 enabled
---    1 length of guest memory    2 number of regions    3 to 26 the regions, three words each
---   27 first byte of the disk   28 sectors   29 read-only   30 length of the backing slice   31 to 33 the identity
---   34 queue size   35 to 37 slice offsets of descriptors, available and used ring   38 chain words lent   39 staging bytes lent
---   40 taken   41 answered   42 to 51 the phase: its number, then the request at hand, then four words of its own
---   52 the number of descriptors of the last complete chain
+--    1 length of guest memory    2 number of regions
+--    3 first byte of the disk    4 sectors    5 read-only    6 length of the backing slice    7 to 9 the identity
+--   10 queue size   11 to 13 slice offsets of descriptors, available and used ring   14 chain words lent   15 staging bytes lent
+--   16 taken   17 answered   18 to 27 the phase: its number, then the request at hand, then four words of its own
+--   28 the number of descriptors of the last complete chain
+--   29 to 124 the regions, three words each
 use Prim.Native.Nat.{ℕ, _+_, _-_, _*_, _^_}
 use mathlib.Core.Bool.{Bool, true, false}
 use mathlib.Core.List.{List, [], _∷_, _++_}
@@ -12,7 +15,7 @@ use lib.Dec.{leb, ltb, eqb}
 use lib.ListN.{getD, length}
 use Rattle.model.specs.Pick.{pick, both}
 use Rattle.model.specs.Bytes.{put, part}
-use Rattle.model.specs.Memory.{regions, sound}
+use Rattle.model.specs.Memory.{regions, regionsMax, sound}
 use Rattle.model.specs.Ring.{sizeOk}
 use Rattle.model.specs.Request.{diskCode}
 use Rattle.model.specs.Sane.{sane}
@@ -25,8 +28,98 @@ use Rattle.model.specs.declared.Phase.the-variants.{Poll, Entry, Chain, Header,
 use Rattle.device.specs.declared.Config.{Config}
 use Rattle.words.specs.declared.Row.{Row}
 
+abbrev pub levelWord : ℕ
+levelWord = 0
+
+abbrev pub memLenWord : ℕ
+memLenWord = 1
+
+abbrev pub regionsWord : ℕ
+regionsWord = 2
+
+abbrev pub startWord : ℕ
+startWord = 3
+
+abbrev pub sectorsWord : ℕ
+sectorsWord = 4
+
+abbrev pub roWord : ℕ
+roWord = 5
+
+abbrev pub backingLenWord : ℕ
+backingLenWord = 6
+
+abbrev pub id0Word : ℕ
+id0Word = 7
+
+abbrev pub id1Word : ℕ
+id1Word = 8
+
+abbrev pub id2Word : ℕ
+id2Word = 9
+
+abbrev pub sizeWord : ℕ
+sizeWord = 10
+
+abbrev pub descAreaWord : ℕ
+descAreaWord = 11
+
+abbrev pub availAreaWord : ℕ
+availAreaWord = 12
+
+abbrev pub usedAreaWord : ℕ
+usedAreaWord = 13
+
+abbrev pub chainLenWord : ℕ
+chainLenWord = 14
+
+abbrev pub stageLenWord : ℕ
+stageLenWord = 15
+
+abbrev pub takenWord : ℕ
+takenWord = 16
+
+abbrev pub answeredWord : ℕ
+answeredWord = 17
+
+abbrev pub tagWord : ℕ
+tagWord = 18
+
+abbrev pub headWord : ℕ
+headWord = 19
+
+abbrev pub countWord : ℕ
+countWord = 20
+
+abbrev pub readsWord : ℕ
+readsWord = 21
+
+abbrev pub rWord : ℕ
+rWord = 22
+
+abbrev pub wWord : ℕ
+wWord = 23
+
+abbrev pub aWord : ℕ
+aWord = 24
+
+abbrev pub bWord : ℕ
+bWord = 25
+
+abbrev pub cWord : ℕ
+cWord = 26
+
+abbrev pub dWord : ℕ
+dWord = 27
+
+abbrev pub descsWord : ℕ
+descsWord = 28
+
+abbrev pub regionsFrom : ℕ
+regionsFrom = 29
+
 abbrev pub stateWords : ℕ
-stateWords = 53
+stateWords = regionsFrom + 3 * regionsMax
 
 -- the phase as numbers
 unfoldable pub jobTag : Job → ℕ
@@ -82,57 +175,61 @@ phaseOf x =
 unfoldable pub rowAt : List ℕ → Row
 rowAt s =
     record {
-      tag = getD s 42 0;
-      head = getD s 43 0;
-      count = getD s 44 0;
-      reads = getD s 45 0;
-      r = getD s 46 0;
-      w = getD s 47 0;
-      a = getD s 48 0;
-      b = getD s 49 0;
-      c = getD s 50 0;
-      d = getD s 51 0;
+      tag = getD s tagWord 0;
+      head = getD s headWord 0;
+      count = getD s countWord 0;
+      reads = getD s readsWord 0;
+      r = getD s rWord 0;
+      w = getD s wWord 0;
+      a = getD s aWord 0;
+      b = getD s bWord 0;
+      c = getD s cWord 0;
+      d = getD s dWord 0;
     }
 
 unfoldable pub rowWords : Row → List ℕ
 rowWords x = x .tag ∷ x .head ∷ x .count ∷ x .reads ∷ x .r ∷ x .w ∷ x .a ∷ x .b ∷ x .c ∷ x .d ∷ []
 
+-- the words that steps change: the two counters, the phase, the last complete chain's number
+abbrev pub savedWords : ℕ
+savedWords = 13
+
 -- the state with these counters, this number of descriptors of the last complete chain, and this phase
 unfoldable pub saved : List ℕ → ℕ → ℕ → ℕ → Phase → List ℕ
-saved s taken answered descs p = put s 40 (taken ∷ answered ∷ (rowWords (rowOf p) ++ (descs ∷ [])))
+saved s taken answered descs p = put s takenWord (taken ∷ answered ∷ (rowWords (rowOf p) ++ (descs ∷ [])))
 
 -- .. with the numbers that it has: most steps change the phase alone
 abbrev pub kept : List ℕ → Phase → List ℕ
-kept s p = saved s (getD s 40 0) (getD s 41 0) (getD s 52 0) p
+kept s p = saved s (getD s takenWord 0) (getD s answeredWord 0) (getD s descsWord 0) p
 
 -- the request at hand, and the place in its buffers
 abbrev pub walkAt : List ℕ → Walk
-walkAt s = record { head = getD s 43 0; count = getD s 44 0; reads = getD s 45 0; r = getD s 46 0; w = getD s 47 0 }
+walkAt s = record { head = getD s headWord 0; count = getD s countWord 0; reads = getD s readsWord 0; r = getD s rWord 0; w = getD s wWord 0 }
 
 abbrev pub placeAt : List ℕ → Place
-placeAt s = record { buf = getD s 48 0; skip = getD s 49 0 }
+placeAt s = record { buf = getD s aWord 0; skip = getD s bWord 0 }
 
 -- the registered regions' words
 abbrev pub mapWords : List ℕ → List ℕ
-mapWords s = part 3 (3 * getD s 2 0) s
+mapWords s = part regionsFrom (3 * getD s regionsWord 0) s
 
 unfoldable pub configAt : List ℕ → Config
 configAt s =
     record {
-      queue = record { size = getD s 34 0; desc = getD s 35 0; avail = getD s 36 0; used = getD s 37 0 };
-      disk = record { start = getD s 27 0; sectors = getD s 28 0; ro = getD s 29 0 };
-      id0 = getD s 31 0;
-      id1 = getD s 32 0;
-      id2 = getD s 33 0;
-      m = getD s 1 0;
+      queue = record { size = getD s sizeWord 0; desc = getD s descAreaWord 0; avail = getD s availAreaWord 0; used = getD s usedAreaWord 0 };
+      disk = record { start = getD s startWord 0; sectors = getD s sectorsWord 0; ro = getD s roWord 0 };
+      id0 = getD s id0Word 0;
+      id1 = getD s id1Word 0;
+      id2 = getD s id2Word 0;
+      m = getD s memLenWord 0;
     }
 
 -- which words set-up makes
 unfoldable pub memoryOk : List ℕ → Bool
-memoryOk s = both (leb 1 (getD s 2 0)) (both (leb (getD s 2 0) 8) (sound (getD s 1 0) (regions (mapWords s))))
+memoryOk s = both (leb 1 (getD s regionsWord 0)) (both (leb (getD s regionsWord 0) regionsMax) (sound (getD s memLenWord 0) (regions (mapWords s))))
 
 unfoldable pub diskOk : List ℕ → Bool
-diskOk s = both (eqb (diskCode (getD s 27 0) (getD s 28 0) (getD s 30 0)) 0) (both (leb (getD s 29 0) 1) (ltb (getD s 33 0) (2 ^ 32)))
+diskOk s = both (eqb (diskCode (getD s startWord 0) (getD s sectorsWord 0) (getD s backingLenWord 0)) 0) (both (leb (getD s roWord 0) 1) (ltb (getD s id2Word 0) (2 ^ 32)))
 
 -- the memory that was lent for this queue, the counters, and how many descriptors a chain may have had
 unfoldable pub lentOk : ℕ → ℕ → ℕ → ℕ → ℕ → ℕ → Bool
@@ -141,30 +238,30 @@ lentOk q chain stage taken answered descs =
 
 unfoldable pub queueOk : List ℕ → Bool
 queueOk s =
-    both (sizeOk (getD s 34 0))
-    (both (leb (getD s 35 0 + 16 * getD s 34 0) (getD s 1 0))
-    (both (leb (getD s 36 0 + (6 + 2 * getD s 34 0)) (getD s 1 0))
-    (both (leb (getD s 37 0 + (6 + 8 * getD s 34 0)) (getD s 1 0))
-    (lentOk (getD s 34 0) (getD s 38 0) (getD s 39 0) (getD s 40 0) (getD s 41 0) (getD s 52 0)))))
+    both (sizeOk (getD s sizeWord 0))
+    (both (leb (getD s descAreaWord 0 + 16 * getD s sizeWord 0) (getD s memLenWord 0))
+    (both (leb (getD s availAreaWord 0 + (6 + 2 * getD s sizeWord 0)) (getD s memLenWord 0))
+    (both (leb (getD s usedAreaWord 0 + (6 + 8 * getD s sizeWord 0)) (getD s memLenWord 0))
+    (lentOk (getD s sizeWord 0) (getD s chainLenWord 0) (getD s stageLenWord 0) (getD s takenWord 0) (getD s answeredWord 0) (getD s descsWord 0)))))
 
 -- .. and steps: a phase's number, a job's number, and numbers that fit together
 unfoldable pub tagsOk : ℕ → ℕ → Bool
 tagsOk tag job = both (leb 1 tag) (both (leb tag 8) (pick (eqb tag 6) (leb job 5) true))
 
 unfoldable pub phaseOk : List ℕ → Bool
-phaseOk s = both (tagsOk (getD s 42 0) (getD s 48 0)) (sane (getD s 34 0) (getD s 28 0) (phaseOf (rowAt s)))
+phaseOk s = both (tagsOk (getD s tagWord 0) (getD s aWord 0)) (sane (getD s sizeWord 0) (getD s sectorsWord 0) (phaseOf (rowAt s)))
 
 unfoldable pub enabledOk : List ℕ → Bool
 enabledOk s = both (queueOk s) (phaseOk s)
 
 -- what of an enabled queue doesn't hang on the phase
 unfoldable pub framed : List ℕ → Bool
-framed s = both (eqb (getD s 0 0) 3) (both (memoryOk s) (both (diskOk s) (queueOk s)))
+framed s = both (eqb (getD s levelWord 0) 3) (both (memoryOk s) (both (diskOk s) (queueOk s)))
 
 -- how far set-up has come; words that set-up and steps don't make count as nothing
 unfoldable pub level : List ℕ → ℕ
 level s =
     pick (memoryOk s)
-    (pick (eqb (getD s 0 0) 1) 1
-    (pick (diskOk s) (pick (eqb (getD s 0 0) 2) 2 (pick (eqb (getD s 0 0) 3) (pick (enabledOk s) 3 0) 0)) 0))
+    (pick (eqb (getD s levelWord 0) 1) 1
+    (pick (diskOk s) (pick (eqb (getD s levelWord 0) 2) 2 (pick (eqb (getD s levelWord 0) 3) (pick (enabledOk s) 3 0) 0)) 0))
     0

@@ -5,13 +5,16 @@ ghost use Prim.Native.Nat.{_+_, _*_, _≤_};
 ghost use lib.Dec.{leb};
 ghost use lib.ListN.{length, getD};
 ghost use Rattle.model.specs.Bytes.{put};
-ghost use Rattle.words.specs.Layout.{stateWords, jobTag, jobSector, row, rowOf, jobOf, phaseOf, rowAt, rowWords, saved, kept, configAt, walkAt, placeAt, memoryOk, diskOk, queueOk, lentOk, tagsOk, phaseOk, enabledOk, framed, level};
+ghost use Rattle.model.specs.Ring.{sizeMax};
+ghost use Rattle.words.specs.Layout.{stateWords, sizeWord, tagWord, jobTag, jobSector, row, rowOf, jobOf, phaseOf, rowAt, rowWords, saved, kept, configAt, walkAt, placeAt, memoryOk, diskOk, queueOk, lentOk, tagsOk, phaseOk, enabledOk, framed, level};
 use model::Disk;
 use model::Job;
 use model::Phase;
 use model::Place;
 use model::Queue;
 use model::Walk;
+
+pub mod at;
 
 // The phase as numbers.
 pub struct Row {
@@ -173,33 +176,33 @@ pub fn row_at(s: &[usize]) -> Row
     ensures { λ z. ⌜ z ≡ rowAt (now (s .entry)) ⌝ }
 {
     Row {
-        tag: s[42],
-        head: s[43],
-        count: s[44],
-        reads: s[45],
-        r: s[46],
-        w: s[47],
-        a: s[48],
-        b: s[49],
-        c: s[50],
-        d: s[51],
+        tag: s[at::TAG],
+        head: s[at::HEAD],
+        count: s[at::COUNT],
+        reads: s[at::READS],
+        r: s[at::R],
+        w: s[at::W],
+        a: s[at::A],
+        b: s[at::B],
+        c: s[at::C],
+        d: s[at::D],
     }
 }
 
 fn save_row(s: &mut [usize], x: Row)
     requires { ⌜ stateWords ≤ length (now s) ⌝ }
-    ensures { λ _. ⌜ now (s .exit) ≡ put (now (s .entry)) 42 (rowWords x) ⌝ }
+    ensures { λ _. ⌜ now (s .exit) ≡ put (now (s .entry)) tagWord (rowWords x) ⌝ }
 {
-    s[42] = x.tag;
-    s[43] = x.head;
-    s[44] = x.count;
-    s[45] = x.reads;
-    s[46] = x.r;
-    s[47] = x.w;
-    s[48] = x.a;
-    s[49] = x.b;
-    s[50] = x.c;
-    s[51] = x.d;
+    s[at::TAG] = x.tag;
+    s[at::HEAD] = x.head;
+    s[at::COUNT] = x.count;
+    s[at::READS] = x.reads;
+    s[at::R] = x.r;
+    s[at::W] = x.w;
+    s[at::A] = x.a;
+    s[at::B] = x.b;
+    s[at::C] = x.c;
+    s[at::D] = x.d;
 }
 
 // The counters, the last complete chain's number of descriptors and the phase are all that steps change.
@@ -207,9 +210,9 @@ pub fn save(s: &mut [usize], taken: usize, answered: usize, descs: usize, p: Pha
     requires { ⌜ stateWords ≤ length (now s) ⌝ }
     ensures { λ _. ⌜ now (s .exit) ≡ saved (now (s .entry)) taken answered descs p ⌝ }
 {
-    s[40] = taken;
-    s[41] = answered;
-    s[52] = descs;
+    s[at::TAKEN] = taken;
+    s[at::ANSWERED] = answered;
+    s[at::DESCS] = descs;
     save_row(s, row_of(p));
 }
 
@@ -241,10 +244,10 @@ pub fn queue_at(s: &[usize]) -> Queue
     ensures { λ z. ⌜ z ≡ configAt (now (s .entry)) .queue ⌝ }
 {
     Queue {
-        size: s[34],
-        desc: s[35],
-        avail: s[36],
-        used: s[37],
+        size: s[at::SIZE],
+        desc: s[at::DESC],
+        avail: s[at::AVAIL],
+        used: s[at::USED],
     }
 }
 
@@ -253,9 +256,9 @@ pub fn disk_at(s: &[usize]) -> Disk
     ensures { λ z. ⌜ z ≡ configAt (now (s .entry)) .disk ⌝ }
 {
     Disk {
-        start: s[27],
-        sectors: s[28],
-        ro: s[29],
+        start: s[at::START],
+        sectors: s[at::SECTORS],
+        ro: s[at::RO],
     }
 }
 
@@ -263,7 +266,7 @@ pub fn walk_at(s: &[usize]) -> Walk
     requires { ⌜ stateWords ≤ length (now s) ⌝ }
     ensures { λ z. ⌜ z ≡ walkAt (now (s .entry)) ⌝ }
 {
-    walk(s[43], s[44], s[45], s[46], s[47])
+    walk(s[at::HEAD], s[at::COUNT], s[at::READS], s[at::R], s[at::W])
 }
 
 pub fn place_at(s: &[usize]) -> Place
@@ -271,8 +274,8 @@ pub fn place_at(s: &[usize]) -> Place
     ensures { λ z. ⌜ z ≡ placeAt (now (s .entry)) ⌝ }
 {
     Place {
-        buf: s[48],
-        skip: s[49],
+        buf: s[at::A],
+        skip: s[at::B],
     }
 }
 
@@ -280,28 +283,28 @@ fn memory_ok(s: &[usize]) -> bool
     requires { ⌜ stateWords ≤ length (now s) ⌝ }
     ensures { λ z. ⌜ z ≡ memoryOk (now (s .entry)) ⌝ }
 {
-    let n = s[2];
+    let n = s[at::REGIONS];
     if n < 1 {
         return false;
     }
-    if 8 < n {
+    if regions::REGIONS_MAX < n {
         return false;
     }
-    let end = 3 + 3 * n;
-    regions::all_sound(s[1], &s[3..end])
+    let end = at::MAP + 3 * n;
+    regions::all_sound(s[at::MEM_LEN], &s[at::MAP..end])
 }
 
 fn disk_ok(s: &[usize]) -> bool
     requires { ⌜ stateWords ≤ length (now s) ⌝ }
     ensures { λ z. ⌜ z ≡ diskOk (now (s .entry)) ⌝ }
 {
-    if disk::disk_code(s[27], s[28], s[30]) != 0 {
+    if disk::disk_code(s[at::START], s[at::SECTORS], s[at::BACKING_LEN]) != 0 {
         return false;
     }
-    if 1 < s[29] {
+    if 1 < s[at::RO] {
         return false;
     }
-    s[33] < 4294967296
+    s[at::ID2] < 4294967296
 }
 
 // Does an area of n bytes at this offset lie in a slice of m bytes?
@@ -325,7 +328,7 @@ fn lent_ok(
     answered: usize,
     descs: usize,
 ) -> bool
-    requires { ⌜ q ≤ 256 ⌝ }
+    requires { ⌜ q ≤ sizeMax ⌝ }
     ensures { λ z. ⌜ z ≡ lentOk q chain stage taken answered descs ⌝ }
 {
     if chain < 2 * q {
@@ -347,13 +350,20 @@ fn queue_ok(s: &[usize]) -> bool
     requires { ⌜ stateWords ≤ length (now s) ⌝ }
     ensures { λ z. ⌜ z ≡ queueOk (now (s .entry)) ⌝ }
 {
-    let q = s[34];
-    let m = s[1];
+    let q = s[at::SIZE];
+    let m = s[at::MEM_LEN];
     if ring::size_ok(q) {
-        if area_ok(m, s[35], 16 * q) {
-            if area_ok(m, s[36], 6 + 2 * q) {
-                if area_ok(m, s[37], 6 + 8 * q) {
-                    return lent_ok(q, s[38], s[39], s[40], s[41], s[52]);
+        if area_ok(m, s[at::DESC], 16 * q) {
+            if area_ok(m, s[at::AVAIL], 6 + 2 * q) {
+                if area_ok(m, s[at::USED], 6 + 8 * q) {
+                    return lent_ok(
+                        q,
+                        s[at::CHAIN_LEN],
+                        s[at::STAGE_LEN],
+                        s[at::TAKEN],
+                        s[at::ANSWERED],
+                        s[at::DESCS],
+                    );
                 }
                 return false;
             }
@@ -381,13 +391,13 @@ fn tags_ok(tag: usize, job: usize) -> bool
 
 fn phase_ok(s: &[usize]) -> bool
     requires { ⌜ stateWords ≤ length (now s) ⌝ }
-    requires { ⌜ getD (now s) 34 0 ≤ 256 ⌝ }
+    requires { ⌜ getD (now s) sizeWord 0 ≤ sizeMax ⌝ }
     ensures { λ z. ⌜ z ≡ phaseOk (now (s .entry)) ⌝ }
 {
-    if tags_ok(s[42], s[48]) {
+    if tags_ok(s[at::TAG], s[at::A]) {
         let x = row_at(s);
         let p = phase_of(x);
-        return sane::sane(s[34], s[28], p);
+        return sane::sane(s[at::SIZE], s[at::SECTORS], p);
     }
     false
 }
@@ -407,7 +417,7 @@ pub fn framed(s: &[usize]) -> bool
     requires { ⌜ stateWords ≤ length (now s) ⌝ }
     ensures { λ z. ⌜ z ≡ framed (now (s .entry)) ⌝ }
 {
-    if s[0] == 3 {
+    if s[at::LEVEL] == 3 {
         if memory_ok(s) {
             if disk_ok(s) {
                 return queue_ok(s);
@@ -424,7 +434,7 @@ pub fn level(s: &[usize]) -> usize
     requires { ⌜ stateWords ≤ length (now s) ⌝ }
     ensures { λ z. ⌜ z ≡ level (now (s .entry)) ⌝ }
 {
-    let tag = s[0];
+    let tag = s[at::LEVEL];
     if memory_ok(s) {
         if tag == 1 {
             return 1;

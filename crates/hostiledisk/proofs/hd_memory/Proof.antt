@@ -1,7 +1,9 @@
 use borrow.Author.Tests.{ne-eqb, eq-eqb, lt-ltb, le-ltb, le-leb, lt-leb}
+use native.Mathlib.Omega.{arith}
+use Rattle.model.proofs.Memory.{mapped}
 use Rattle.hostiledisk.specs.Calls.{chainWords, hdMemory, flag, diskSet, hdDisk, queueSet, enabledWith, hdEnableAt, hdReset, seen, seenOf, shown, statusWords, hdStatus, isBroken, longEnough, stepped, steppedOn, Going, hdStep, StepIs}
 use mathlib.Core.Path.{_≡_, refl, sym, _∙_, ap}
-use Rattle.hostiledisk.proofs.Laws.{memory-few, level-two, level-three, fit-of, untouched-is}
+use Rattle.hostiledisk.proofs.Laws.{level-two, level-three, fit-of, untouched-is}
 use Rattle.words.specs.Layout.{stateWords}
 use borrow.Author.Needs.{needs}
 use Rattle.hostiledisk.proofs.hd_memory.Statement.{statement}
@@ -19,7 +21,7 @@ unfolding hdMemory
 returns-2 c = let t = le-ltb _ stateWords (c .before .before .if1 .left) in let e = c .before .memory-code .ensures in let u = ne-eqb _ 0 (c .if2 .taken) in (rw (t, ← e, u), rw (t, ← e, u))
 
 note-memory-requires : tie.Need-note-memory-requires
-note-memory-requires c κs = (c .before .before .before .if1 .left, memory-few _ _ (sym (c .before .before .memory-code .ensures) ∙ c .before .if2 .left))
+note-memory-requires c κs = (c .before .before .before .if1 .left, let few = mapped _ _ (sym (c .before .before .memory-code .ensures) ∙ c .before .if2 .left) in omega (arith, few .threes, few .few))
 
 same-length : tie.Need-same-length
 same-length c = search needs

@@ -1,5 +1,5 @@
 -- The regions before i are seen and the others to come: `codeFrom` at i is the answer, and a refusal of the region at i is it.
-use Rattle.model.specs.Memory.{regionCode, clash}
+use Rattle.model.specs.Memory.{regionCode, clash, regionsMax}
 use lib.Seq.{length-take-le}
 use Prim.Native.Nat.{_≤_, _+_, _-_, _%_, _/_}
 use mathlib.Core.Path.{_≡_, refl, sym, _∙_}
@@ -30,11 +30,11 @@ returns-2 c = let l = length (now (c .before .before .before .args .map)) in rw 
 
 returns-3 : tie.Need-returns-3 Inv-loop μ-loop
 unfolding memoryCode
-returns-3 c = let l = length (now (c .before .before .before .before .args .map)) in rw (eq-eqb (l % 3) 0 (c .before .before .if1 .left), le-leb 1 (l / 3) (omega arith), lt-leb (l / 3) 8 (omega arith))
+returns-3 c = let l = length (now (c .before .before .before .before .args .map)) in rw (eq-eqb (l % 3) 0 (c .before .before .if1 .left), le-leb 1 (l / 3) (omega arith), lt-leb (l / 3) regionsMax (omega arith))
 
 loop-holds : tie.Need-loop-holds Inv-loop μ-loop
 unfolding memoryCode regions
-loop-holds c = let l = length (now (c .before .before .before .before .args .map)) in (search needs, refl, rw (eq-eqb (l % 3) 0 (c .before .before .if1 .left), le-leb 1 (l / 3) (omega arith), le-leb (l / 3) 8 (omega arith)))
+loop-holds c = let l = length (now (c .before .before .before .before .args .map)) in (search needs, refl, rw (eq-eqb (l % 3) 0 (c .before .before .if1 .left), le-leb 1 (l / 3) (omega arith), le-leb (l / 3) regionsMax (omega arith)))
 
 add-loop : tie.Need-add-loop Inv-loop μ-loop
 add-loop c = search needs

@@ -1,6 +1,6 @@
 use borrow.Author.Tests.{ne-eqb, eq-eqb, lt-ltb, le-ltb, le-leb, lt-leb}
 use native.Mathlib.Omega.{arith}
-use Rattle.words.specs.Layout.{jobTag, jobSector, row, rowOf, jobOf, phaseOf, rowAt, rowWords, saved, configAt, mapWords, memoryOk, diskOk, queueOk, lentOk, tagsOk, phaseOk, enabledOk, level}
+use Rattle.words.specs.Layout.{jobTag, jobSector, row, rowOf, jobOf, phaseOf, rowAt, rowWords, saved, configAt, mapWords, memoryOk, diskOk, queueOk, lentOk, tagsOk, phaseOk, enabledOk, level, roWord}
 use denote.Ref.{now}
 use lib.ListN.{getD}
 use mathlib.Core.Path.{_≡_, refl, sym, _∙_, ap}
@@ -29,14 +29,14 @@ shared-slice-read-if2 c = search needs
 
 returns-2 : tie.Need-returns-2
 unfolding diskOk
-returns-2 c = rw (← (c .before .before .before .disk-code .ensures), eq-eqb _ 0 (c .before .before .if1 .left), lt-leb (getD (now (c .before .before .before .before .before .before .before .before .args .s)) 29 0) 1 (c .if2 .taken))
+returns-2 c = rw (← (c .before .before .before .disk-code .ensures), eq-eqb _ 0 (c .before .before .if1 .left), lt-leb (getD (now (c .before .before .before .before .before .before .before .before .args .s)) roWord 0) 1 (c .if2 .taken))
 
 shared-slice-read-result : tie.Need-shared-slice-read-result
 shared-slice-read-result c = search needs
 
 returns-3 : tie.Need-returns-3
 unfolding diskOk
-returns-3 c = rw (← (c .before .before .before .before .disk-code .ensures), eq-eqb _ 0 (c .before .before .before .if1 .left), le-leb (getD (now (c .before .before .before .before .before .before .before .before .before .args .s)) 29 0) 1 (c .before .if2 .left))
+returns-3 c = rw (← (c .before .before .before .before .disk-code .ensures), eq-eqb _ 0 (c .before .before .before .if1 .left), le-leb (getD (now (c .before .before .before .before .before .before .before .before .before .args .s)) roWord 0) 1 (c .before .if2 .left))
 
 pub disk-ok-spec : {M : Type 1} → statement M
 disk-ok-spec =

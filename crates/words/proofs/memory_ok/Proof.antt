@@ -1,6 +1,8 @@
 use borrow.Author.Tests.{ne-eqb, eq-eqb, lt-ltb, le-ltb, le-leb, lt-leb}
 use native.Mathlib.Omega.{arith}
-use Rattle.words.specs.Layout.{jobTag, jobSector, row, rowOf, jobOf, phaseOf, rowAt, rowWords, saved, configAt, mapWords, memoryOk, diskOk, queueOk, lentOk, tagsOk, phaseOk, enabledOk, level}
+use Rattle.model.specs.Memory.{regionsMax}
+use Rattle.words.proofs.Laws.{map-long}
+use Rattle.words.specs.Layout.{jobTag, jobSector, row, rowOf, jobOf, phaseOf, rowAt, rowWords, saved, configAt, mapWords, memoryOk, diskOk, queueOk, lentOk, tagsOk, phaseOk, enabledOk, level, regionsWord}
 use denote.Ref.{now}
 use lib.ListN.{getD}
 use Prim.Native.Nat.{_+_, _-_, _*_, _^_}
@@ -15,11 +17,11 @@ shared-slice-read-n c = search needs
 
 returns : tie.Need-returns
 unfolding memoryOk
-returns c = let n = getD (now (c .before .before .before .args .s)) 2 0 in rw (lt-leb 1 n (omega arith))
+returns c = let n = getD (now (c .before .before .before .args .s)) regionsWord 0 in rw (lt-leb 1 n (omega arith))
 
 returns-2 : tie.Need-returns-2
 unfolding memoryOk
-returns-2 c = let n = getD (now (c .before .before .before .before .args .s)) 2 0 in rw (le-leb 1 n (omega arith), lt-leb n 8 (omega arith))
+returns-2 c = let n = getD (now (c .before .before .before .before .args .s)) regionsWord 0 in rw (le-leb 1 n (omega arith), lt-leb n regionsMax (omega arith))
 
 mul-end : tie.Need-mul-end
 mul-end c = search needs
@@ -44,7 +46,7 @@ all-sound-requires c κs = search needs
 
 returns-3 : tie.Need-returns-3
 unfolding memoryOk part
-returns-3 c = let n = getD (now (c .before .before .before .before .before .before .before .args .s)) 2 0 in let e : 3 + 3 * n - 3 ≡ 3 * n = omega arith in rw (le-leb 1 n (omega arith), le-leb n 8 (omega arith)) (rw e at (c .all-sound .ensures))
+returns-3 c = let n = getD (now (c .before .before .before .before .before .before .before .args .s)) regionsWord 0 in let e = map-long n in rw (le-leb 1 n (omega arith), le-leb n regionsMax (omega arith)) (rw e at (c .all-sound .ensures))
 
 pub memory-ok-spec : {M : Type 1} → statement M
 memory-ok-spec =

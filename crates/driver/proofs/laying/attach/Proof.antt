@@ -1,7 +1,7 @@
 use mathlib.Core.Path.{_≡_, refl, sym, _∙_, ap}
 use Rattle.driver.specs.Lay.{attachedWith, attached, publishCode, published, lay, layOn}
 use borrow.Author.Tests.{eq-eqb, ne-eqb, lt-ltb, le-ltb, le-leb, lt-leb}
-use Rattle.model.proofs.Memory.{memory-sound}
+use Rattle.model.proofs.Memory.{mapped}
 use borrow.Author.Needs.{needs}
 use Rattle.driver.proofs.laying.attach.Statement.{statement}
 use Rattle.driver.proofs.laying.attach.Tie as tie
@@ -22,7 +22,7 @@ returns c = rw (← (c .before .memory-code .ensures), ne-eqb _ 0 (c .if1 .taken
 
 -- src/laying.rt:50:9
 areas-requires : tie.Need-areas-requires
-areas-requires c κs = memory-sound _ _ (sym (c .before .memory-code .ensures) ∙ c .if1 .left)
+areas-requires c κs = mapped _ _ (sym (c .before .memory-code .ensures) ∙ c .if1 .left) .each-sound
 
 -- src/laying.rt:51:5
 attached-with-requires : tie.Need-attached-with-requires

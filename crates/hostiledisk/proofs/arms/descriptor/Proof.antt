@@ -1,6 +1,7 @@
 -- The words hold this phase (`held-..`); its tests are those of `sane` and `ready`; what its functions ensure is the model's step (`met-..`).
 use native.Mathlib.Omega.{arith}
 use mathlib.Core.Path.{_≡_, refl, sym, _∙_}
+use Rattle.words.proofs.Laws.{map-long}
 use Rattle.words.proofs.Laws.{framed-queue}
 use Rattle.words.proofs.Saved.{kept-descs}
 use denote.Ref.{now}
@@ -11,7 +12,7 @@ use Rattle.model.specs.Sane.{ready}
 use Rattle.model.specs.Step.{codeAfter}
 use Rattle.model.proofs.Sane.{chain-ok}
 use Rattle.model.proofs.Chain.{chain-on}
-use Rattle.words.specs.Layout.{configAt}
+use Rattle.words.specs.Layout.{configAt, regionsWord}
 use Rattle.device.proofs.Laws.{met-chain}
 use Rattle.hostiledisk.proofs.Phases.{held-chain, sane-chain, framed-few, fit-held, insane, acted}
 use borrow.Author.Needs.{needs}
@@ -59,7 +60,7 @@ slice-reshared-read-descriptor-2 c = search needs
 
 descriptor-requires : tie.Need-descriptor-requires
 unfolding part configAt ready
-descriptor-requires c κs = let n = getD (now (c .before .before .before .before .before .before .before .before .before .before .before .before .before .before .before .before .before .args .state)) 2 0 in let e : 3 + 3 * n - 3 ≡ 3 * n = omega arith in let t = sym (c .before .before .before .before .before .before .before .chain-sane .ensures) ∙ c .before .before .before .before .before .before .if1 .taken in let f = fit-held _ _ _ _ (now (c .before .before .before .before .before .before .before .before .before .before .before .before .before .before .before .before .before .args .chain)) _ (held-chain _ _ _ _ _ (c .before .before .before .before .before .before .before .before .before .before .before .before .before .before .before .before .before .pre) _ (c .before .before .before .before .before .before .before .before .before .before .walk-at .ensures)) (sane-chain _ _ _ _ t) refl in let h = chain-ok _ _ _ _ t in rw (c .before .before .before .before .queue-at .ensures, e) (f .sound-map, omega (arith, h, f))
+descriptor-requires c κs = let n = getD (now (c .before .before .before .before .before .before .before .before .before .before .before .before .before .before .before .before .before .args .state)) regionsWord 0 in let e = map-long n in let t = sym (c .before .before .before .before .before .before .before .chain-sane .ensures) ∙ c .before .before .before .before .before .before .if1 .taken in let f = fit-held _ _ _ _ (now (c .before .before .before .before .before .before .before .before .before .before .before .before .before .before .before .before .before .args .chain)) _ (held-chain _ _ _ _ _ (c .before .before .before .before .before .before .before .before .before .before .before .before .before .before .before .before .before .pre) _ (c .before .before .before .before .before .before .before .before .before .before .walk-at .ensures)) (sane-chain _ _ _ _ t) refl in let h = chain-ok _ _ _ _ t in rw (c .before .before .before .before .queue-at .ensures, e) (f .sound-map, omega (arith, h, f))
 
 enum-known-p : tie.Need-enum-known-p
 enum-known-p c = search needs
@@ -75,7 +76,7 @@ same-length-2 c = search needs
 
 returns : tie.Need-returns
 unfolding part codeAfter ready
-returns c = let n = getD (now (c .before .before .before .before .before .before .before .before .before .before .before .before .before .before .before .before .before .before .before .before .before .before .before .before .before .before .before .args .state)) 2 0 in let e : 3 + 3 * n - 3 ≡ 3 * n = omega arith in let q = c .before .before .before .before .before .before .before .before .before .before .before .before .before .before .queue-at .ensures in let d = c .before .before .before .before .before .before .before .before .before .descriptor .ensures in let g = c .before .before .before .before .before .p .given .1 in let t = rw (q, e) at (d .0) in acted _ _ _ _ _ _ (held-chain _ _ _ _ _ (c .before .before .before .before .before .before .before .before .before .before .before .before .before .before .before .before .before .before .before .before .before .before .before .before .before .before .before .pre) _ (c .before .before .before .before .before .before .before .before .before .before .before .before .before .before .before .before .before .before .before .before .walk-at .ensures)) (sane-chain _ _ _ _ (sym (c .before .before .before .before .before .before .before .before .before .before .before .before .before .before .before .before .before .chain-sane .ensures) ∙ c .before .before .before .before .before .before .before .before .before .before .before .before .before .before .before .before .if1 .taken)) refl _ _ _ _ _ _ _ _ _ _ (met-chain _ _ _ _ _ _ _ _ _ _ _ _ _ t (sym (chain-on _ _ _ _ _ _ _ (sym t ∙ g))) (rw (q, e) at (d .1 .1))) (rw g (c .before .before .save-chain .ensures)) _ (rw g)
+returns c = let n = getD (now (c .before .before .before .before .before .before .before .before .before .before .before .before .before .before .before .before .before .before .before .before .before .before .before .before .before .before .before .args .state)) regionsWord 0 in let e = map-long n in let q = c .before .before .before .before .before .before .before .before .before .before .before .before .before .before .queue-at .ensures in let d = c .before .before .before .before .before .before .before .before .before .descriptor .ensures in let g = c .before .before .before .before .before .p .given .1 in let t = rw (q, e) at (d .0) in acted _ _ _ _ _ _ (held-chain _ _ _ _ _ (c .before .before .before .before .before .before .before .before .before .before .before .before .before .before .before .before .before .before .before .before .before .before .before .before .before .before .before .pre) _ (c .before .before .before .before .before .before .before .before .before .before .before .before .before .before .before .before .before .before .before .before .walk-at .ensures)) (sane-chain _ _ _ _ (sym (c .before .before .before .before .before .before .before .before .before .before .before .before .before .before .before .before .before .chain-sane .ensures) ∙ c .before .before .before .before .before .before .before .before .before .before .before .before .before .before .before .before .if1 .taken)) refl _ _ _ _ _ _ _ _ _ _ (met-chain _ _ _ _ _ _ _ _ _ _ _ _ _ t (sym (chain-on _ _ _ _ _ _ _ (sym t ∙ g))) (rw (q, e) at (d .1 .1))) (rw g (c .before .before .save-chain .ensures)) _ (rw g)
 
 slice-write-state : tie.Need-slice-write-state
 slice-write-state c = search needs
@@ -91,7 +92,7 @@ same-length-4 c = search needs
 
 returns-2 : tie.Need-returns-2
 unfolding part ready
-returns-2 c = let n = getD (now (c .before .before .before .before .before .before .before .before .before .before .before .before .before .before .before .before .before .before .before .before .before .before .before .before .before .args .state)) 2 0 in let e : 3 + 3 * n - 3 ≡ 3 * n = omega arith in let q = c .before .before .before .before .before .before .before .before .before .before .before .before .queue-at .ensures in let d = c .before .before .before .before .before .before .before .descriptor .ensures in acted _ _ _ _ _ _ (held-chain _ _ _ _ _ (c .before .before .before .before .before .before .before .before .before .before .before .before .before .before .before .before .before .before .before .before .before .before .before .before .before .pre) _ (c .before .before .before .before .before .before .before .before .before .before .before .before .before .before .before .before .before .before .walk-at .ensures)) (sane-chain _ _ _ _ (sym (c .before .before .before .before .before .before .before .before .before .before .before .before .before .before .before .chain-sane .ensures) ∙ c .before .before .before .before .before .before .before .before .before .before .before .before .before .before .if1 .taken)) refl _ _ _ _ _ _ _ _ _ _ (met-chain _ _ _ _ _ _ _ _ _ _ _ _ _ (rw (q, e) at (d .0)) (rw (q, e) at (d .1 .0)) (rw (q, e) at (d .1 .1))) (c .before .before .finish .ensures .1 ∙ kept-descs _ _ _ (c .before .before .before .before .before .before .before .before .before .before .before .before .before .before .before .before .before .before .before .before .before .before .before .before .before .pre .words-long)) _ (c .before .before .finish .ensures .0)
+returns-2 c = let n = getD (now (c .before .before .before .before .before .before .before .before .before .before .before .before .before .before .before .before .before .before .before .before .before .before .before .before .before .args .state)) regionsWord 0 in let e = map-long n in let q = c .before .before .before .before .before .before .before .before .before .before .before .before .queue-at .ensures in let d = c .before .before .before .before .before .before .before .descriptor .ensures in acted _ _ _ _ _ _ (held-chain _ _ _ _ _ (c .before .before .before .before .before .before .before .before .before .before .before .before .before .before .before .before .before .before .before .before .before .before .before .before .before .pre) _ (c .before .before .before .before .before .before .before .before .before .before .before .before .before .before .before .before .before .before .walk-at .ensures)) (sane-chain _ _ _ _ (sym (c .before .before .before .before .before .before .before .before .before .before .before .before .before .before .before .chain-sane .ensures) ∙ c .before .before .before .before .before .before .before .before .before .before .before .before .before .before .if1 .taken)) refl _ _ _ _ _ _ _ _ _ _ (met-chain _ _ _ _ _ _ _ _ _ _ _ _ _ (rw (q, e) at (d .0)) (rw (q, e) at (d .1 .0)) (rw (q, e) at (d .1 .1))) (c .before .before .finish .ensures .1 ∙ kept-descs _ _ _ (c .before .before .before .before .before .before .before .before .before .before .before .before .before .before .before .before .before .before .before .before .before .before .before .before .before .pre .words-long)) _ (c .before .before .finish .ensures .0)
 
 same-length-5 : tie.Need-same-length-5
 same-length-5 c = search needs

@@ -3,6 +3,8 @@ use mathlib.Core.Path.{_≡_, refl, sym, _∙_, ap}
 use denote.Ref.{now}
 use lib.ListN.{getD, length-set}
 use Prim.Native.Nat.{_+_, _-_, _*_, _^_}
+use Rattle.words.specs.Layout.{regionsWord}
+use Rattle.words.proofs.Laws.{map-long}
 use Rattle.hostiledisk.proofs.Laws.{memory-ok}
 use Rattle.model.specs.Bytes.{part}
 use borrow.Author.Needs.{needs}
@@ -32,11 +34,11 @@ shared-slice-read-areas c = search needs
 
 areas-requires : tie.Need-areas-requires
 unfolding part
-areas-requires c κs = let n = getD (now (c .before .before .before .before .args .state)) 2 0 in let e : 3 + 3 * n - 3 ≡ 3 * n = omega arith in rw e (memory-ok _ (c .before .before .before .before .pre .1) .sound-map)
+areas-requires c κs = let n = getD (now (c .before .before .before .before .args .state)) regionsWord 0 in let e = map-long n in rw e (memory-ok _ (c .before .before .before .before .pre .1) .sound-map)
 
 returns : tie.Need-returns
 unfolding part
-returns c = let n = getD (now (c .before .before .before .before .before .args .state)) 2 0 in let e : 3 + 3 * n - 3 ≡ 3 * n = omega arith in rw e at (c .areas .ensures)
+returns c = let n = getD (now (c .before .before .before .before .before .args .state)) regionsWord 0 in let e = map-long n in rw e at (c .areas .ensures)
 
 pub areas-spec : {M : Type 1} → statement M
 areas-spec =

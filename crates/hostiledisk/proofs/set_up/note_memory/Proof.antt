@@ -4,6 +4,7 @@ use Rattle.model.proofs.Lists.{put-cons, put-nil}
 use native.Mathlib.Omega.{arith}
 use lib.ListN.{length-set}
 use borrow.Author.Needs.{needs}
+use Rattle.hostiledisk.specs.Calls.{memorySet}
 use Rattle.hostiledisk.proofs.set_up.note_memory.Statement.{statement}
 use Rattle.hostiledisk.proofs.set_up.note_memory.Tie as tie
 
@@ -23,7 +24,8 @@ same-length : tie.Need-same-length
 same-length c = c .before .before .keep .kept .0 ∙ simp length-set
 
 returns : tie.Need-returns
-returns c = rw (c .before .before .keep .ensures) (simp put-cons)
+unfolding memorySet
+returns c = rw (c .before .before .keep .ensures) (simp (put-cons, put-nil))
 
 pub note-memory-spec : {M : Type 1} → statement M
 note-memory-spec =

@@ -1,4 +1,4 @@
--- `fill` kept the length of 27 words, so each part that is lent is as long as asked.
+-- `fill` kept the length of 99 words, so each part that is lent is as long as asked.
 use native.Mathlib.Omega.{arith}
 use lib.ListN.{length-take}
 use borrow.Author.Needs.{needs}
