@@ -2,5 +2,5 @@
 use Rattle.std.specs.Prelude.{ℕ, List, ◌++◌}
 use Rattle.model.specs.Bytes.{bytes}
 
-unfoldable pub idBytes : ℕ → ℕ → ℕ → List ℕ
-idBytes a b c = bytes 8 a ++ (bytes 8 b ++ bytes 4 c)
+unfoldable pub id_bytes : ℕ → ℕ → ℕ → List ℕ
+id_bytes a b c = bytes 8 a ++ (bytes 8 b ++ bytes 4 c)

@@ -2,9 +2,9 @@
 ghost use Rattle.std.specs.Prelude.{◌≡◌, true, [], ◌∷◌, ◌++◌, ◌+◌, ◌-◌, ◌*◌, ◌≤◌, ◌<◌, min, length};
 ghost use Rattle.model.specs.Bytes.{put, part, bytes};
 ghost use Rattle.model.specs.Request.{status, reported};
-ghost use Rattle.model.specs.Step.{spans, scatter, apply, writables, handed, diskOf, answerStores};
-ghost use Rattle.model.specs.Sane.{allInside, jobOk};
-ghost use Rattle.answer.specs.Identity.{idBytes};
+ghost use Rattle.model.specs.Step.{spans, scatter, apply, writables, handed, disk_of, answer_stores};
+ghost use Rattle.model.specs.Sane.{all_inside, job_ok};
+ghost use Rattle.answer.specs.Identity.{id_bytes};
 ghost use Rattle.answer.specs.Fit.{AnswerFit};
 
 use model::{Disk, Job, Queue, Walk};
@@ -30,7 +30,7 @@ pub fn spread(
 )
     requires n_in_bounds { from + n ≤ length src.now }
     requires end_in_bounds { 2 * end ≤ length chain.now }
-    requires chain_value { allInside (length mem.old) (spans (end - first) first chain.now) ≡ true }
+    requires chain_value { all_inside (length mem.old) (spans (end - first) first chain.now) ≡ true }
     ensures { mem.new ≡ apply (scatter (spans (end - first) first chain.now) (part from n src.now)) mem.old }
 {
     let mut i = first;
@@ -56,8 +56,8 @@ fn spread_identity(
     mem: &mut [u8],
 )
     requires end_in_bounds { 2 * end ≤ length chain.now }
-    requires chain_value { allInside (length mem.old) (spans (end - first) first chain.now) ≡ true }
-    ensures { mem.new ≡ apply (scatter (spans (end - first) first chain.now) (idBytes id0 id1 id2)) mem.old }
+    requires chain_value { all_inside (length mem.old) (spans (end - first) first chain.now) ≡ true }
+    ensures { mem.new ≡ apply (scatter (spans (end - first) first chain.now) (id_bytes id0 id1 id2)) mem.old }
 {
     let mut id = [0u8; 20];
     wire::put64(&mut id, 0, id0);
@@ -80,10 +80,10 @@ fn hand(
 )
     requires sectors_in_bounds { disk.start + 512 * disk.sectors ≤ length backing.now }
     requires le_w { 1 ≤ k.w }
-    requires job_value { jobOk disk.sectors k job ≡ true }
+    requires job_value { job_ok disk.sectors k job ≡ true }
     requires count_in_bounds { 2 * k.count ≤ length chain.now }
-    requires k_value { allInside (length mem.old) (writables chain.now k) ≡ true }
-    ensures { mem.new ≡ apply (scatter (writables chain.now k) (handed (idBytes id0 id1 id2) (diskOf disk backing.now) k job)) mem.old }
+    requires k_value { all_inside (length mem.old) (writables chain.now k) ≡ true }
+    ensures { mem.new ≡ apply (scatter (writables chain.now k) (handed (id_bytes id0 id1 id2) (disk_of disk backing.now) k job)) mem.old }
 {
     match job {
         Job::Failed => {}
@@ -122,7 +122,7 @@ pub fn reply(
     mem: &mut [u8],
 )
     requires { AnswerFit queue disk k job chain.now (length backing.now) (length mem.old) }
-    ensures { mem.new ≡ apply (answerStores (idBytes id0 id1 id2) queue answered chain.now (diskOf disk backing.now) k job) mem.old }
+    ensures { mem.new ≡ apply (answer_stores (id_bytes id0 id1 id2) queue answered chain.now (disk_of disk backing.now) k job) mem.old }
 {
     hand(disk, id0, id1, id2, k, job, chain, backing, mem);
     let last = k.count - 1;

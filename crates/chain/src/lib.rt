@@ -1,9 +1,9 @@
 // The chain (01 §3): a descriptor fetched once, its tests in their order, and the private copy of the chain.
 ghost use Rattle.std.specs.Prelude.{◌≡◌, true, ◌+◌, ◌*◌, ◌%◌, ◌≤◌, ◌<◌, ◌^◌, length, leb, ltb, eqb};
-ghost use Rattle.model.specs.Ring.{sizeMax};
+ghost use Rattle.model.specs.Ring.{size_max};
 ghost use Rattle.model.specs.Pick.{both};
 ghost use Rattle.model.specs.Memory.{regions, sound};
-ghost use Rattle.model.specs.Chain.{descAt, testedBy, tested, tally, held, complete, described, descsAfter, keeps};
+ghost use Rattle.model.specs.Chain.{desc_at, tested_by, tested, tally, held, complete, described, descs_after, keeps};
 ghost use Rattle.chain.specs.Bounds.{DescOk};
 
 use model::{Desc, Found, Job, Linked, Phase, Place, Tested, Walk};
@@ -41,7 +41,7 @@ pub fn judge(
     next: usize,
     found: Found,
 ) -> Tested
-    ensures { result ≡ testedBy (leb q count) (ltb 3 flags) (eqb len 0) found (both (ltb flags 2) (ltb reads count)) (eqb (flags % 2) 0) (leb q next) }
+    ensures { result ≡ tested_by (leb q count) (ltb 3 flags) (eqb len 0) found (both (ltb flags 2) (ltb reads count)) (eqb (flags % 2) 0) (leb q next) }
 {
     if q <= count {
         return Tested::Bad(3);
@@ -129,7 +129,7 @@ pub fn described(
     chain: &mut [usize],
 ) -> Linked
     requires map_value { sound m (regions map.now) ≡ true }
-    requires q_le_size_max { q ≤ sizeMax }
+    requires q_le_size_max { q ≤ size_max }
     requires q_in_bounds { 2 * q ≤ length chain.old }
     requires count_le_q { k.count ≤ q }
     requires reads_le_q { k.reads ≤ q }
@@ -137,7 +137,7 @@ pub fn described(
     requires w_bound { k.w < 2 ^ 62 }
     requires len_bound { d.len < 2 ^ 32 }
     ensures phase_value { result.phase ≡ described k cur d (tested (regions map.now) q k d) }
-    ensures descs_value { result.descs ≡ descsAfter n k (tested (regions map.now) q k d) }
+    ensures descs_value { result.descs ≡ descs_after n k (tested (regions map.now) q k d) }
     ensures chain_after { chain.new ≡ keeps chain.old k d (tested (regions map.now) q k d) }
 {
     let found = regions::locate(map, m, d.addr, d.len);

@@ -11,10 +11,10 @@ use lib.Dec.{leb}
 use borrow.Author.Tests.{leb-true, le-leb}
 use Rattle.model.specs.Pick.{pick}
 use Rattle.model.specs.Bytes.{put, part, word, bytes}
-use Rattle.model.specs.Ring.{polled, headed, oneMore}
-use Rattle.model.specs.Chain.{descAt, tested, described, descsAfter, keeps}
-use Rattle.model.specs.Step.{Cfg, State, Span, Out, Effect, nothing, stores, Store, apply, shifted, spans, writables, left, lacks, ends, gathered, paid, want, next, chained, measured, staged, effect, answerStores, memStores, diskStores, diskOf, counted, codeAfter, code_of, fetched, stepWith, step}
-use Rattle.model.specs.Sane.{sane, ready, inside, allInside, placeOk}
+use Rattle.model.specs.Ring.{polled, headed, plus_one}
+use Rattle.model.specs.Chain.{desc_at, tested, described, descs_after, keeps}
+use Rattle.model.specs.Step.{Cfg, State, Span, Out, Effect, nothing, stores, Store, apply, shifted, spans, writables, left, lacks, ends, gathered, paid, want, next, chained, measured, staged, effect, answer_stores, mem_stores, disk_stores, disk_of, counted, code_after, code_of, fetched, step_with, step}
+use Rattle.model.specs.Sane.{sane, ready, inside, all_inside, place_is_ok}
 use Rattle.model.proofs.Tests.{picked, both-split}
 use Rattle.model.proofs.Words.{word-part}
 use Rattle.model.specs.declared.Disk.{Disk}
@@ -34,8 +34,8 @@ pub word-all : (n k : ℕ) (m : List ℕ) → word n 0 (part k n m) ≡ word n k
 word-all n k m = word-part n 0 k n m (omega arith) ∙ ap (λ (x : ℕ). word n x m) (add-zero k)
 
 -- a descriptor that is the whole fetched range
-pub desc-all : (k : ℕ) (m : List ℕ) → descAt 0 (part k 16 m) ≡ descAt k m
-unfolding descAt
+pub desc-all : (k : ℕ) (m : List ℕ) → desc_at 0 (part k 16 m) ≡ desc_at k m
+unfolding desc_at
 desc-all k m =
     rw (word-part 8 0 k 16 m (omega arith), word-part 4 8 k 16 m (omega arith), word-part 2 12 k 16 m (omega arith), word-part 2 14 k 16 m (omega arith), add-zero k)
 
@@ -46,8 +46,8 @@ pub met-quiet : (c : Cfg) (t a l : ℕ) (p : Phase) (mem backing chain stage : L
     → (l₂ : ℕ) (chain₂ stage₂ : List ℕ) → l₂ ≡ measured c l p (fetched c (state_of t a l p) chain mem)
     → chain₂ ≡ chained c chain p (fetched c (state_of t a l p) chain mem)
     → stage₂ ≡ staged chain stage p (fetched c (state_of t a l p) chain mem)
-    → Met (step c (state_of t a l p) mem backing chain stage) t a l₂ q (codeAfter q) mem backing chain₂ stage₂
-unfolding step stepWith memStores diskStores counted code_of apply shifted
+    → Met (step c (state_of t a l p) mem backing chain stage) t a l₂ q (code_after q) mem backing chain₂ stage₂
+unfolding step step_with mem_stores disk_stores counted code_of apply shifted
 met-quiet c t a l p mem backing chain stage q e n l₂ chain₂ stage₂ d x y =
     record { taken_is = rw e; answered-is = rw e; descs-is = d; phase-is = n; code_is = rw (e, ← n); mem_is = rw e; backing-is = rw e; chain-is = x; stage_is = y }
 
@@ -57,19 +57,19 @@ unfolding counted
 paid-counted true at bs n = refl
 paid-counted false at bs n = refl
 
-paid-code : (b : Bool) (at : ℕ) (bs : List ℕ) (p : Phase) → code_of (pick b (stores at bs) nothing) p ≡ codeAfter p
+paid-code : (b : Bool) (at : ℕ) (bs : List ℕ) (p : Phase) → code_of (pick b (stores at bs) nothing) p ≡ code_after p
 unfolding code_of
 paid-code true at bs p = refl
 paid-code false at bs p = refl
 
-paid-mem : (b : Bool) (at : ℕ) (bs : List ℕ) (c : Cfg) (n : ℕ) (chain disk mem : List ℕ) → apply (memStores c n chain disk (pick b (stores at bs) nothing)) mem ≡ mem
-unfolding memStores apply
+paid-mem : (b : Bool) (at : ℕ) (bs : List ℕ) (c : Cfg) (n : ℕ) (chain disk mem : List ℕ) → apply (mem_stores c n chain disk (pick b (stores at bs) nothing)) mem ≡ mem
+unfolding mem_stores apply
 paid-mem true at bs c n chain disk mem = refl
 paid-mem false at bs c n chain disk mem = refl
 
 paid-back : (b : Bool) (at : ℕ) (bs : List ℕ) (d : ℕ) (backing : List ℕ)
-    → shifted d (diskStores (pick b (stores at bs) nothing)) backing ≡ pick b (put backing (d + at) bs) backing
-unfolding diskStores shifted
+    → shifted d (disk_stores (pick b (stores at bs) nothing)) backing ≡ pick b (put backing (d + at) bs) backing
+unfolding disk_stores shifted
 paid-back true at bs d backing = refl
 paid-back false at bs d backing = refl
 
@@ -78,8 +78,8 @@ pub met-paid : (c : Cfg) (t a l : ℕ) (mem backing chain stage : List ℕ) (k :
     → stage₂ ≡ pick (ends k got (left chain p).len) stage (put stage got (part (left chain p).at (left chain p).len mem))
     → backing₂
     ≡ pick (ends k got (left chain p).len) (put backing (c.disk.start + 512 * sector) (part 0 got stage ++ part (left chain p).at (left chain p).len mem)) backing
-    → Met (step c (state_of t a l (Payload k p sector got)) mem backing chain stage) t a l q (codeAfter q) mem backing₂ chain stage₂
-unfolding step stepWith want next chained measured staged effect
+    → Met (step c (state_of t a l (Payload k p sector got)) mem backing chain stage) t a l q (code_after q) mem backing₂ chain stage₂
+unfolding step step_with want next chained measured staged effect
 met-paid c t a l mem backing chain stage k p sector got q stage₂ backing₂ n x y =
     let b = ends k got (left chain p).len in
     let bs = part 0 got stage ++ part (left chain p).at (left chain p).len mem in
@@ -89,38 +89,38 @@ met-paid c t a l mem backing chain stage k p sector got q stage₂ backing₂ n 
       descs-is = refl;
       phase-is = n;
       code_is = rw (paid-code b (512 * sector) bs (paid k p sector got (left chain p).len), ← n);
-      mem_is = sym (paid-mem b (512 * sector) bs c a chain (diskOf c.disk backing) mem);
+      mem_is = sym (paid-mem b (512 * sector) bs c a chain (disk_of c.disk backing) mem);
       backing-is = y ∙ sym (paid-back b (512 * sector) bs c.disk.start backing);
       chain-is = refl;
       stage_is = x;
     }
 
 -- a longer slice holds what a shorter one holds
-pub inside-more : (m n : ℕ) → m ≤ n → (ss : List Span) → allInside m ss ≡ true → allInside n ss ≡ true
-unfolding allInside inside
+pub inside-more : (m n : ℕ) → m ≤ n → (ss : List Span) → all_inside m ss ≡ true → all_inside n ss ≡ true
+unfolding all_inside inside
 inside-more m n h [] e = refl
 inside-more m n h (s ∷ ss) e =
-    let a = picked (leb (s.at + s.len) m) (allInside m ss) e in
+    let a = picked (leb (s.at + s.len) m) (all_inside m ss) e in
     rw (le-leb (s.at + s.len) n (omega (arith, leb-true (s.at + s.len) m a.0))) (inside-more m n h ss a.1)
 
 -- S1 to S7, one law each
 module _ (c : Cfg) (t a l : ℕ) (mem backing chain stage : List ℕ) where
   pub met-poll : (q : Phase) → q ≡ polled c.queue.size t (word 2 (c.queue.avail + 2) mem)
-      → Met (step c (state_of t a l Poll) mem backing chain stage) t a l q (codeAfter q) mem backing chain stage
+      → Met (step c (state_of t a l Poll) mem backing chain stage) t a l q (code_after q) mem backing chain stage
   unfolding want next chained measured staged effect
   met-poll q n = met-quiet c t a l Poll mem backing chain stage q refl (rw (word-all 2 (c.queue.avail + 2) mem) n) l chain stage refl refl refl
 
   pub met-entry : (q : Phase) → q ≡ headed c.queue.size (word 2 (c.queue.avail + (4 + 2 * (t % c.queue.size))) mem)
-      → Met (step c (state_of t a l Entry) mem backing chain stage) t a l q (codeAfter q) mem backing chain stage
+      → Met (step c (state_of t a l Entry) mem backing chain stage) t a l q (code_after q) mem backing chain stage
   unfolding want next chained measured staged effect
   met-entry q n =
       met-quiet c t a l Entry mem backing chain stage q refl (rw (word-all 2 (c.queue.avail + (4 + 2 * (t % c.queue.size))) mem) n) l chain stage refl refl refl
 
   pub met-chain : (k : Walk) (cur : ℕ) (q : Phase) (l₂ : ℕ) (chain₂ : List ℕ)
-      → q ≡ described k cur (descAt (c.queue.desc + 16 * cur) mem) (tested c.map c.queue.size k (descAt (c.queue.desc + 16 * cur) mem))
-      → l₂ ≡ descsAfter l k (tested c.map c.queue.size k (descAt (c.queue.desc + 16 * cur) mem))
-      → chain₂ ≡ keeps chain k (descAt (c.queue.desc + 16 * cur) mem) (tested c.map c.queue.size k (descAt (c.queue.desc + 16 * cur) mem))
-      → Met (step c (state_of t a l (Chain k cur)) mem backing chain stage) t a l₂ q (codeAfter q) mem backing chain₂ stage
+      → q ≡ described k cur (desc_at (c.queue.desc + 16 * cur) mem) (tested c.map c.queue.size k (desc_at (c.queue.desc + 16 * cur) mem))
+      → l₂ ≡ descs_after l k (tested c.map c.queue.size k (desc_at (c.queue.desc + 16 * cur) mem))
+      → chain₂ ≡ keeps chain k (desc_at (c.queue.desc + 16 * cur) mem) (tested c.map c.queue.size k (desc_at (c.queue.desc + 16 * cur) mem))
+      → Met (step c (state_of t a l (Chain k cur)) mem backing chain stage) t a l₂ q (code_after q) mem backing chain₂ stage
   unfolding want next chained measured staged effect
   met-chain k cur q l₂ chain₂ n d x =
       let e = desc-all (c.queue.desc + 16 * cur) mem in
@@ -129,21 +129,21 @@ module _ (c : Cfg) (t a l : ℕ) (mem backing chain stage : List ℕ) where
   pub met-header : (k : Walk) (p : Place) (got : ℕ) (q : Phase) (stage₂ : List ℕ)
       → stage₂ ≡ put stage got (part (left chain p).at (lacks got (left chain p).len) mem)
       → q ≡ gathered c.disk k p got (left chain p).len (lacks got (left chain p).len) (word 4 0 stage₂) (word 8 8 stage₂)
-      → Met (step c (state_of t a l (Header k p got)) mem backing chain stage) t a l q (codeAfter q) mem backing chain stage₂
+      → Met (step c (state_of t a l (Header k p got)) mem backing chain stage) t a l q (code_after q) mem backing chain stage₂
   unfolding want next chained measured staged effect
   met-header k p got q stage₂ x n = met-quiet c t a l (Header k p got) mem backing chain stage q refl (rw (← x) n) l chain stage₂ refl refl x
 
   pub met-answer : (k : Walk) (job : Job) (got : ℕ) (mem₂ : List ℕ)
-      → mem₂ ≡ apply (answerStores c.id c.queue a chain (diskOf c.disk backing) k job) mem
+      → mem₂ ≡ apply (answer_stores c.id c.queue a chain (disk_of c.disk backing) k job) mem
       → Met (step c (state_of t a l (Answer k job got)) mem backing chain stage) t a l (Publish k got) 1 mem₂ backing chain stage
-  unfolding step stepWith want next chained measured staged effect memStores diskStores counted code_of codeAfter shifted
+  unfolding step step_with want next chained measured staged effect mem_stores disk_stores counted code_of code_after shifted
   met-answer k job got mem₂ x =
       record { taken_is = refl; answered-is = refl; descs-is = refl; phase-is = refl; code_is = refl; mem_is = x; backing-is = refl; chain-is = refl; stage_is = refl }
 
-  pub met-publish : (k : Walk) (got x y : ℕ) (mem₂ : List ℕ) → x ≡ oneMore t → y ≡ oneMore a
-      → mem₂ ≡ put mem (c.queue.used + 2) (bytes 2 (oneMore a))
+  pub met-publish : (k : Walk) (got x y : ℕ) (mem₂ : List ℕ) → x ≡ plus_one t → y ≡ plus_one a
+      → mem₂ ≡ put mem (c.queue.used + 2) (bytes 2 (plus_one a))
       → Met (step c (state_of t a l (Publish k got)) mem backing chain stage) x y l Poll 2 mem₂ backing chain stage
-  unfolding step stepWith want next chained measured staged effect memStores diskStores counted code_of apply shifted
+  unfolding step step_with want next chained measured staged effect mem_stores disk_stores counted code_of apply shifted
   met-publish k got x y mem₂ p q e =
       record { taken_is = p; answered-is = q; descs-is = refl; phase-is = refl; code_is = refl; mem_is = e; backing-is = refl; chain-is = refl; stage_is = refl }
 
@@ -169,7 +169,7 @@ module _ (c : Config) (t a : ℕ) (map : List ℕ) (mem backing : ℕ) (chain : 
   unfolding ready
   payload-fit k p sector got f =
       let h = payload-ok c.queue.size c.disk.sectors k p sector got f.sane-phase in
-      let b = both-split (placeOk c.m chain p) (leb (got + (left chain p).len) (k.r - 16)) f.ready-phase in
+      let b = both-split (place_is_ok c.m chain p) (leb (got + (left chain p).len) (k.r - 16)) f.ready-phase in
       let g = place_ok c.m chain p b.0 in
       record {
         buf-low = omega (arith, h, f.size-high);
@@ -187,7 +187,7 @@ module _ (c : Config) (t a : ℕ) (map : List ℕ) (mem backing : ℕ) (chain : 
   unfolding ready
   answer-fit k job got f =
       let h = answer_ok c.queue.size c.disk.sectors k job got f.sane-phase in
-      let b = both-split (allInside c.m (writables chain k)) (leb 1 (get_or chain (2 * (k.count - 1) + 1) 0)) f.ready-phase in
+      let b = both-split (all_inside c.m (writables chain k)) (leb 1 (get_or chain (2 * (k.count - 1) + 1) 0)) f.ready-phase in
       record {
         size-some = f.size-some;
         used-in = omega (arith, f.used-in, f.mem_long);

@@ -1,16 +1,16 @@
 -- One step of the code beside one step of the model.
 use Rattle.std.specs.Prelude.{ℕ, ◌+◌, ◌*◌, ◌≤◌, ◌<◌, true, List, ◌≡◌, length}
-use Rattle.model.specs.Ring.{sizeMax}
+use Rattle.model.specs.Ring.{size_max}
 use Rattle.model.specs.Memory.{regions, sound}
 use Rattle.model.specs.Step.{Cfg, State, Out}
 use Rattle.model.specs.Sane.{sane, ready}
 use Rattle.model.specs.declared.Phase.{Phase}
-use Rattle.answer.specs.Identity.{idBytes}
+use Rattle.answer.specs.Identity.{id_bytes}
 use Rattle.device.specs.declared.Config.{Config}
 
 -- the model's words for what the code holds
-abbrev pub cfgOf : Config → List ℕ → Cfg
-cfgOf c words = record { map = regions words; disk = c.disk; id = idBytes c.id0 c.id1 c.id2; queue = c.queue }
+abbrev pub cfg_of : Config → List ℕ → Cfg
+cfg_of c words = record { map = regions words; disk = c.disk; id = id_bytes c.id0 c.id1 c.id2; queue = c.queue }
 
 abbrev pub state_of : ℕ → ℕ → ℕ → Phase → State
 state_of taken answered descs p = record { taken = taken; answered = answered; descs = descs; phase = p }
@@ -19,7 +19,7 @@ state_of taken answered descs p = record { taken = taken; answered = answered; d
 pub record Fit (c : Config) (taken answered : ℕ) (p : Phase) (map : List ℕ) (mem backing : ℕ) (chain : List ℕ) (stage : ℕ) : Type 0 where
   pub sound-map : sound c.m (regions map) ≡ true
   pub size-some : 1 ≤ c.queue.size
-  pub size-high : c.queue.size ≤ sizeMax
+  pub size-high : c.queue.size ≤ size_max
   pub desc-in : c.queue.desc + 16 * c.queue.size ≤ c.m
   pub avail-in : c.queue.avail + (6 + 2 * c.queue.size) ≤ c.m
   pub used-in : c.queue.used + (6 + 8 * c.queue.size) ≤ c.m

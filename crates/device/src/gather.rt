@@ -1,6 +1,6 @@
 // S4 and S5: the header and the payload, fetched buffer by buffer.
 ghost use Rattle.std.specs.Prelude.{◌≡◌, ◌++◌, ◌+◌, ◌-◌, ◌*◌, ◌≤◌, ◌<◌, ◌^◌, length};
-ghost use Rattle.model.specs.Ring.{sizeMax};
+ghost use Rattle.model.specs.Ring.{size_max};
 ghost use Rattle.model.specs.Pick.{pick};
 ghost use Rattle.model.specs.Bytes.{put, part, word};
 ghost use Rattle.model.specs.Step.{left, lacks, ends, onward, gathered, paid};
@@ -11,7 +11,7 @@ use model::{Disk, Job, Phase, Place, Walk};
 fn onward(p: Place, l: usize, n: usize) -> Place
     requires n_le_l { n ≤ l }
     requires l_bound { p.skip + l < 2 ^ 64 }
-    requires buf_lt_size_max { p.buf < sizeMax }
+    requires buf_lt_size_max { p.buf < size_max }
     ensures { result ≡ onward p l n }
 {
     if n == l {
@@ -39,7 +39,7 @@ fn gathered(
 ) -> Phase
     requires n_le_l { n ≤ l }
     requires l_bound { p.skip + l < 2 ^ 64 }
-    requires buf_lt_size_max { p.buf < sizeMax }
+    requires buf_lt_size_max { p.buf < size_max }
     requires n_bound { got + n ≤ 16 }
     requires le_w { 1 ≤ k.w }
     ensures { result ≡ gathered d k p got l n kind sector }

@@ -3,9 +3,9 @@
 ghost use Rattle.std.specs.Prelude.{◌≡◌, true, ◌+◌, ◌*◌, ◌%◌, ◌≤◌, ◌<◌, length};
 ghost use Rattle.model.specs.Bytes.{put, word, bytes};
 ghost use Rattle.model.specs.Memory.{regions, sound};
-ghost use Rattle.model.specs.Ring.{polled, headed, oneMore, sizeMax};
-ghost use Rattle.model.specs.Chain.{descAt, tested, described, descsAfter, keeps};
-ghost use Rattle.model.specs.Step.{codeAfter};
+ghost use Rattle.model.specs.Ring.{polled, headed, plus_one, size_max};
+ghost use Rattle.model.specs.Chain.{desc_at, tested, described, descs_after, keeps};
+ghost use Rattle.model.specs.Step.{code_after};
 
 use model::{Disk, Linked, Phase, Queue, Walk};
 
@@ -54,7 +54,7 @@ pub fn descriptor(
     chain: &mut [usize],
 ) -> Linked
     requires map_value { sound m (regions map.now) ≡ true }
-    requires size_le_size_max { queue.size ≤ sizeMax }
+    requires size_le_size_max { queue.size ≤ size_max }
     requires size_in_bounds { queue.desc + 16 * queue.size ≤ length mem.now }
     requires size_in_bounds_2 { 2 * queue.size ≤ length chain.old }
     requires cur_lt_size { cur < queue.size }
@@ -62,9 +62,9 @@ pub fn descriptor(
     requires reads_le_count { k.reads ≤ k.count }
     requires r_bound { k.r ≤ 4294967295 * k.reads }
     requires w_bound { k.w ≤ 4294967295 * k.count }
-    ensures phase_value { result.phase ≡ described k cur (descAt (queue.desc + 16 * cur) mem.now) (tested (regions map.now) queue.size k (descAt (queue.desc + 16 * cur) mem.now)) }
-    ensures descs_value { result.descs ≡ descsAfter n k (tested (regions map.now) queue.size k (descAt (queue.desc + 16 * cur) mem.now)) }
-    ensures chain_after { chain.new ≡ keeps chain.old k (descAt (queue.desc + 16 * cur) mem.now) (tested (regions map.now) queue.size k (descAt (queue.desc + 16 * cur) mem.now)) }
+    ensures phase_value { result.phase ≡ described k cur (desc_at (queue.desc + 16 * cur) mem.now) (tested (regions map.now) queue.size k (desc_at (queue.desc + 16 * cur) mem.now)) }
+    ensures descs_value { result.descs ≡ descs_after n k (tested (regions map.now) queue.size k (desc_at (queue.desc + 16 * cur) mem.now)) }
+    ensures chain_after { chain.new ≡ keeps chain.old k (desc_at (queue.desc + 16 * cur) mem.now) (tested (regions map.now) queue.size k (desc_at (queue.desc + 16 * cur) mem.now)) }
 {
     let d = chain::fetch(mem, queue.desc + 16 * cur);
     chain::described(map, m, queue.size, k, cur, d, n, chain)
@@ -74,13 +74,13 @@ pub fn descriptor(
 pub fn publish(queue: Queue, answered: usize, mem: &mut [u8])
     requires used_in_bounds { queue.used + 4 ≤ length mem.old }
     requires answered_bound { answered < 65536 }
-    ensures { mem.new ≡ put mem.old (queue.used + 2) (bytes 2 (oneMore answered)) }
+    ensures { mem.new ≡ put mem.old (queue.used + 2) (bytes 2 (plus_one answered)) }
 {
     ring::used_idx(mem, queue.used, ring::one_more(answered));
 }
 
 pub fn code_after(p: Phase) -> usize
-    ensures { result ≡ codeAfter p }
+    ensures { result ≡ code_after p }
 {
     match p {
         Phase::Poll => 0,

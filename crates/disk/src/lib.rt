@@ -1,11 +1,11 @@
 // A disk (03 §1): a range of the backing slice in sectors. It knows nothing of requests.
 ghost use Rattle.std.specs.Prelude.{◌≡◌, ◌++◌, ◌+◌, ◌≤◌, length};
 ghost use Rattle.model.specs.Bytes.{put, part};
-ghost use Rattle.model.specs.Request.{diskCode};
+ghost use Rattle.model.specs.Request.{disk_code};
 
 // 29, 30, or 0.
 pub fn disk_code(start: usize, sectors: usize, backing: usize) -> usize
-    ensures { result ≡ diskCode start sectors backing }
+    ensures { result ≡ disk_code start sectors backing }
 {
     if sectors < 1 {
         return 29;

@@ -14,7 +14,7 @@ use Rattle.model.specs.Step.{spans}
 use Rattle.model.specs.declared.Queue.{Queue}
 use Rattle.model.proofs.Tests.{picked, on}
 use Rattle.model.proofs.Lists.{length-put, put_in, put-below}
-use Rattle.driver.specs.Lay.{spotAt, is_at, place_of, in_memory, settled, spotsOf, areaWords, formOk, separate, free, ready, countsOk, planOn, plan, Plan, planned}
+use Rattle.driver.specs.Lay.{spot_at, is_at, place_of, in_memory, settled, spots_of, area_words, form_ok, separate, free, ready, counts_ok, plan_on, plan, Plan, planned}
 use Rattle.driver.proofs.Laws.{counts-ok}
 use Rattle.driver.proofs.Fits.{settled-long, spots-long}
 
@@ -36,8 +36,8 @@ settled_same : (rs : List Region) (bufs : List ℕ) (n i : ℕ) (spots spots₂ 
 unfolding in_memory settled
 settled_same rs bufs zero i spots spots₂ t l h k f u = f (omega arith)
 settled_same rs bufs (suc n) i spots spots₂ t l h k f u =
-    let p = picked (is_at (spotAt rs bufs i)) (in_memory rs bufs n (suc i)) t in
-    let ys : List ℕ = place_of (spotAt rs bufs i) ∷ get_or bufs (2 * i + 1) 0 ∷ [] in
+    let p = picked (is_at (spot_at rs bufs i)) (in_memory rs bufs n (suc i)) t in
+    let ys : List ℕ = place_of (spot_at rs bufs i) ∷ get_or bufs (2 * i + 1) 0 ∷ [] in
     let a : length (put spots (2 * i) ys) ≡ length spots = length-put spots (2 * i) ys in
     let b : length (put spots₂ (2 * i) ys) ≡ length spots₂ = length-put spots₂ (2 * i) ys in
     rw p.0
@@ -45,12 +45,12 @@ settled_same rs bufs (suc n) i spots spots₂ t l h k f u =
     (λ v. put_same spots spots₂ (2 * i) ys k l (omega arith) f (omega arith)) (omega arith))
 
 spots-same : (q : Queue) (rs : List Region) (bufs : List ℕ) (e : ℕ) (spots spots₂ : List ℕ) → in_memory rs bufs e 0 ≡ true → length spots ≡ length spots₂ → 2 * e + 6 ≤ length spots
-    → (k : ℕ) → k < 2 * e + 6 → get_or (spotsOf q rs bufs e spots) k 0 ≡ get_or (spotsOf q rs bufs e spots₂) k 0
-unfolding spotsOf areaWords
+    → (k : ℕ) → k < 2 * e + 6 → get_or (spots_of q rs bufs e spots) k 0 ≡ get_or (spots_of q rs bufs e spots₂) k 0
+unfolding spots_of area_words
 spots-same q rs bufs e spots spots₂ t l h k u =
     let a = settled-long rs bufs e 0 spots in
     let b = settled-long rs bufs e 0 spots₂ in
-    put_same (settled rs bufs e 0 spots) (settled rs bufs e 0 spots₂) (2 * e) (areaWords q) k (omega arith) (omega arith)
+    put_same (settled rs bufs e 0 spots) (settled rs bufs e 0 spots₂) (2 * e) (area_words q) k (omega arith) (omega arith)
     (λ v. settled_same rs bufs e 0 spots spots₂ t l (omega arith) k (λ w. absurd (omega arith)) (omega arith)) (omega arith)
 
 spans-same : (n i : ℕ) (xs ys : List ℕ) → ((k : ℕ) → k < 2 * (i + n) → get_or xs k 0 ≡ get_or ys k 0) → spans n i xs ≡ spans n i ys
@@ -67,19 +67,19 @@ tests_same true false x x₂ y y₂ z z₂ e f g = f
 tests_same false b x x₂ y y₂ z z₂ e f g = g
 
 form-same : (kind r reads e : ℕ) (spots spots₂ : List ℕ) → reads ≤ e → ((k : ℕ) → k < 2 * e + 6 → get_or spots k 0 ≡ get_or spots₂ k 0)
-    → formOk kind r spots reads e ≡ formOk kind r spots₂ reads e
-unfolding formOk
+    → form_ok kind r spots reads e ≡ form_ok kind r spots₂ reads e
+unfolding form_ok
 form-same kind r reads e spots spots₂ h f =
     rw (spans-same reads 0 spots spots₂ (λ k u. f k (omega arith)), spans-same (e - reads) reads spots spots₂ (λ k u. f k (omega arith)))
 
 on_same : (q : ℕ) (own : List ℕ) (kind r reads e : ℕ) (spots spots₂ nums nums₂ : List ℕ) → reads ≤ e → ((k : ℕ) → k < 2 * e + 6 → get_or spots k 0 ≡ get_or spots₂ k 0)
-    → (planOn q own kind r reads e spots nums).code ≡ (planOn q own kind r reads e spots₂ nums₂).code
-unfolding planOn
+    → (plan_on q own kind r reads e spots nums).code ≡ (plan_on q own kind r reads e spots₂ nums₂).code
+unfolding plan_on
 on_same q own kind r reads e spots spots₂ nums nums₂ h f =
     let c : ℕ = pick (leb e (length (free q own))) 0 65 in
     let ns : List ℕ = take e (free q own) in
     rw (form-same kind r reads e spots spots₂ h f, spans-same (e + 3) 0 spots spots₂ (λ k u. f k (omega arith)))
-    (tests_same (formOk kind r spots₂ reads e) (separate (spans (e + 3) 0 spots₂)) (planned c spots (put nums 0 ns)) (planned c spots₂ (put nums₂ 0 ns)) (planned 64 spots nums)
+    (tests_same (form_ok kind r spots₂ reads e) (separate (spans (e + 3) 0 spots₂)) (planned c spots (put nums 0 ns)) (planned c spots₂ (put nums₂ 0 ns)) (planned 64 spots nums)
     (planned 64 spots₂ nums₂) (planned 63 spots nums) (planned 63 spots₂ nums₂) refl refl refl)
 
 -- Laying answers the same with other private memory of the same lengths.
@@ -89,22 +89,22 @@ pub plan-again : (q : Queue) (rs : List Region) (m : ℕ) (own : List ℕ) (kind
 unfolding plan
 plan-again q rs m own kind r bufs reads spots nums spots₂ nums₂ ls ln =
     rw (← ls, ← ln)
-    (go (ready q rs m (length own)) (countsOk q.size (length bufs) reads (length spots) (length nums)) refl (in_memory rs bufs (length bufs / 2) 0) refl)
+    (go (ready q rs m (length own)) (counts_ok q.size (length bufs) reads (length spots) (length nums)) refl (in_memory rs bufs (length bufs / 2) 0) refl)
   where
-    go : (a b : Bool) → countsOk q.size (length bufs) reads (length spots) (length nums) ≡ b → (t : Bool) → in_memory rs bufs (length bufs / 2) 0 ≡ t
+    go : (a b : Bool) → counts_ok q.size (length bufs) reads (length spots) (length nums) ≡ b → (t : Bool) → in_memory rs bufs (length bufs / 2) 0 ≡ t
         → (pick a
         (pick b
-        (pick t (planOn q.size own kind r reads (length bufs / 2) (spotsOf q rs bufs (length bufs / 2) spots) nums) (planned 62 (settled rs bufs (length bufs / 2) 0 spots) nums))
+        (pick t (plan_on q.size own kind r reads (length bufs / 2) (spots_of q rs bufs (length bufs / 2) spots) nums) (planned 62 (settled rs bufs (length bufs / 2) 0 spots) nums))
         (planned 61 spots nums))
         (planned 60 spots nums)).code
         ≡ (pick a
         (pick b
-        (pick t (planOn q.size own kind r reads (length bufs / 2) (spotsOf q rs bufs (length bufs / 2) spots₂) nums₂) (planned 62 (settled rs bufs (length bufs / 2) 0 spots₂) nums₂))
+        (pick t (plan_on q.size own kind r reads (length bufs / 2) (spots_of q rs bufs (length bufs / 2) spots₂) nums₂) (planned 62 (settled rs bufs (length bufs / 2) 0 spots₂) nums₂))
         (planned 61 spots₂ nums₂))
         (planned 60 spots₂ nums₂)).code
     go true true x true y =
         let k = counts-ok q.size (length bufs) reads (length spots) (length nums) x in
-        on_same q.size own kind r reads (length bufs / 2) (spotsOf q rs bufs (length bufs / 2) spots) (spotsOf q rs bufs (length bufs / 2) spots₂) nums nums₂ k.reads_in
+        on_same q.size own kind r reads (length bufs / 2) (spots_of q rs bufs (length bufs / 2) spots) (spots_of q rs bufs (length bufs / 2) spots₂) nums nums₂ k.reads_in
         (spots-same q rs bufs (length bufs / 2) spots spots₂ y ls k.spots-long)
     go true true x false y = refl
     go true false x t y = refl
@@ -113,16 +113,16 @@ plan-again q rs m own kind r bufs reads spots nums spots₂ nums₂ ls ln =
 -- .. and leaves it as long as it was
 pub plan-long : (q : Queue) (rs : List Region) (m : ℕ) (own : List ℕ) (kind r : ℕ) (bufs : List ℕ) (reads : ℕ) (spots nums : List ℕ)
     → (length (plan q rs m own kind r bufs reads spots nums).spots ≡ length spots) × (length (plan q rs m own kind r bufs reads spots nums).nums ≡ length nums)
-unfolding plan planOn
+unfolding plan plan_on
 plan-long q rs m own kind r bufs reads spots nums =
     let e = length bufs / 2 in
     let P : Plan → Type 0 = λ p. (length p.spots ≡ length spots) × (length p.nums ≡ length nums) in
     let l = spots-long q rs bufs e spots in
     on P (ready q rs m (length own))
-    (λ a. on P (countsOk q.size (length bufs) reads (length spots) (length nums))
+    (λ a. on P (counts_ok q.size (length bufs) reads (length spots) (length nums))
     (λ b. on P (in_memory rs bufs e 0)
-    (λ t. on P (formOk kind r (spotsOf q rs bufs e spots) reads e)
-    (λ f. on P (separate (spans (e + 3) 0 (spotsOf q rs bufs e spots))) (λ s. (l, length-put nums 0 (take e (free q.size own)))) (λ s. (l, refl)))
+    (λ t. on P (form_ok kind r (spots_of q rs bufs e spots) reads e)
+    (λ f. on P (separate (spans (e + 3) 0 (spots_of q rs bufs e spots))) (λ s. (l, length-put nums 0 (take e (free q.size own)))) (λ s. (l, refl)))
     (λ f. (l, refl)))
     (λ t. (settled-long rs bufs e 0 spots, refl)))
     (λ b. (refl, refl)))

@@ -8,20 +8,20 @@ use native.Mathlib.Nat.{add-zero}
 use lib.Dec.{leb, ltb, eqb}
 use lib.ListN.{get_or, length, take, drop, set}
 use lib.Seq.{take-append-le, take-append-add, take-nil}
-use Rattle.driver.specs.Lay.{queueIn}
+use Rattle.driver.specs.Lay.{queue_in}
 use borrow.Author.Tests.{leb-true, leb-false, ltb-true}
 use Rattle.model.specs.Pick.{pick, both}
 use Rattle.model.specs.Bytes.{put, part}
 use Rattle.model.specs.Step.{Span, spans, buffer}
-use Rattle.model.specs.Sane.{allInside}
+use Rattle.model.specs.Sane.{all_inside}
 use Rattle.model.proofs.Tests.{told, both-split, on}
 use Rattle.model.proofs.Lists.{put-put, put-nil, length_part, take_part}
 use Rattle.model.proofs.Step.{spans-turn, spans-end}
 use Rattle.model.proofs.Sane.{inside-at}
 use Rattle.requests.specs.Serve.{gather}
-use Rattle.driver.specs.Take.{freed, released, spotsIn, countable, judged, outstanding}
+use Rattle.driver.specs.Take.{freed, released, spots_in, countable, judged, outstanding}
 use Rattle.driver.proofs.Laws.{queue-ok}
-use Rattle.model.specs.Ring.{pending, oneMore, sizeMax}
+use Rattle.model.specs.Ring.{pending, plus_one, size_max}
 use Rattle.driver.specs.declared.Taken.{Taken}
 use Rattle.driver.specs.declared.Taken.TheVariants.{None, Strange, Answer}
 use Rattle.driver.specs.declared.Driver.{Driver}
@@ -92,17 +92,17 @@ pub record SpotsIn (m : ℕ) (spots : List ℕ) (reads e : ℕ) : Type 0 where
   pub some : 1 ≤ e
   pub writable : reads < e
   pub long : 2 * e ≤ length spots
-  pub all_in : allInside m (spans (e - reads) reads spots) ≡ true
+  pub all_in : all_inside m (spans (e - reads) reads spots) ≡ true
   pub last_some : 1 ≤ get_or spots (2 * (e - 1) + 1) 0
   pub last-in : get_or spots (2 * (e - 1)) 0 + get_or spots (2 * (e - 1) + 1) 0 ≤ m
 
-pub spots-in-ok : (m : ℕ) (spots : List ℕ) (reads e : ℕ) → spotsIn m spots reads e ≡ true → SpotsIn m spots reads e
-unfolding spotsIn
+pub spots-in-ok : (m : ℕ) (spots : List ℕ) (reads e : ℕ) → spots_in m spots reads e ≡ true → SpotsIn m spots reads e
+unfolding spots_in
 spots-in-ok m spots reads e t =
     let a = both-split (leb 1 e) _ t in
     let b = both-split (ltb reads e) _ a.1 in
     let c = both-split (leb e (length spots / 2)) _ b.1 in
-    let d = both-split (allInside m (spans (e - reads) reads spots)) _ c.1 in
+    let d = both-split (all_inside m (spans (e - reads) reads spots)) _ c.1 in
     let u : reads < e = omega told in
     let p : reads + (e - 1 - reads) ≡ e - 1 = omega arith in
     record {
@@ -117,7 +117,7 @@ spots-in-ok m spots reads e t =
 pub countable-ok : (d : Driver) (m own idx : ℕ) → countable d m own idx ≡ true → (d.queue.size ≤ own) × (idx < 65536) × (d.seen < 65536)
 unfolding countable
 countable-ok d m own idx t =
-    let a = both-split (queueIn d.queue m) _ t in
+    let a = both-split (queue_in d.queue m) _ t in
     let b = both-split (leb d.queue.size own) _ a.1 in
     let c = both-split (ltb idx 65536) _ b.1 in
     (omega told, omega told, omega told)
@@ -127,7 +127,7 @@ pub record Named (d : Driver) (own : List ℕ) (d₂ : Driver) (head : ℕ) : Ty
   pub queue-is : d₂.queue.size ≡ d.queue.size
   pub head_in : head < d.queue.size
   pub own-long : d.queue.size ≤ length own
-  pub small : d.queue.size ≤ sizeMax
+  pub small : d.queue.size ≤ size_max
 
 pub judged-answer : (d : Driver) (m : ℕ) (own : List ℕ) (idx id len : ℕ) (d₂ : Driver) (head n : ℕ) → judged d m own idx id len ≡ Answer d₂ head n → Named d own d₂ head
 unfolding judged outstanding countable
@@ -139,10 +139,10 @@ judged-answer d m own idx id len d₂ head n =
     (λ c. on P (both (ltb id d.queue.size) (eqb (get_or own id 0) (suc id)))
     (λ o e.
     let p = countable-ok d m (length own) idx a in
-    let q = both-split (queueIn d.queue m) _ a in
+    let q = both-split (queue_in d.queue m) _ a in
     let k = queue-ok d.queue m q.0 in
     let h : id ≡ head = cc in
-    let g : record { queue = d.queue; next = d.next; seen = oneMore d.seen } ≡ d₂ = cc in
+    let g : record { queue = d.queue; next = d.next; seen = plus_one d.seen } ≡ d₂ = cc in
     record {
       queue-is = ap (λ (x : Driver). x.queue.size) (sym g);
       head_in = omega (arith, ltb-true id d.queue.size (both-split (ltb id d.queue.size) _ o).0);

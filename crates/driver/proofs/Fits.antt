@@ -1,6 +1,6 @@
 -- Where laying answers 0, all that the record LayFit says holds of the request, its spots and its numbers.
 use Prim.Native.Nat.{ℕ, zero, suc, ◌+◌, ◌-◌, ◌*◌, ◌/◌, ◌%◌, ◌≤◌, ◌<◌, min}
-use Rattle.model.specs.Ring.{oneMore}
+use Rattle.model.specs.Ring.{plus_one}
 use mathlib.Core.Bool.{Bool, true, false}
 use mathlib.Core.List.{List, [], ◌∷◌}
 use mathlib.Core.Path.{◌≡◌, refl, sym, ◌∙◌, ap}
@@ -13,7 +13,7 @@ use Rattle.model.specs.Pick.{pick, both}
 use Rattle.model.specs.Bytes.{put}
 use Rattle.model.specs.Memory.{Region, sound, locate}
 use Rattle.model.specs.Step.{Span, spans}
-use Rattle.model.specs.Sane.{allInside, inside}
+use Rattle.model.specs.Sane.{all_inside, inside}
 use Rattle.model.specs.declared.Found.{Found}
 use Rattle.model.specs.declared.Found.TheVariants.{At, Nothing}
 use Rattle.model.specs.declared.Queue.{Queue}
@@ -23,7 +23,7 @@ use Rattle.model.proofs.Ring.{size-range}
 use native.Mathlib.Nat.{zero-add}
 use Rattle.model.proofs.Lists.{length-put, put_in, put-below}
 use Rattle.requests.specs.Serve.{total}
-use Rattle.driver.specs.Lay.{spot_of, spotAt, is_at, place_of, in_memory, settled, spotsOf, areaWords, formed, measured, formOk, separate, free, ready, countsOk, planOn, plan, Plan, planned, PlanIs}
+use Rattle.driver.specs.Lay.{spot_of, spot_at, is_at, place_of, in_memory, settled, spots_of, area_words, formed, measured, form_ok, separate, free, ready, counts_ok, plan_on, plan, Plan, planned, PlanIs}
 use Rattle.driver.specs.Fit.{Spot, Areas, LayFit, Numbers, WriteFit}
 use Rattle.driver.proofs.Laws.{ReadyOk, ready-ok, CountsOk, counts-ok}
 use Rattle.driver.proofs.Formed.{FormOk, formed-ok}
@@ -33,25 +33,25 @@ use Rattle.driver.proofs.Free.{free-below, rising-at}
 pub settled-long : (rs : List Region) (bufs : List ℕ) (n i : ℕ) (spots : List ℕ) → length (settled rs bufs n i spots) ≡ length spots
 unfolding settled
 settled-long rs bufs zero i spots = refl
-settled-long rs bufs (suc n) i spots = go (is_at (spotAt rs bufs i)) (settled-long rs bufs n (suc i) (put spots (2 * i) (place_of (spotAt rs bufs i) ∷ get_or bufs (2 * i + 1) 0 ∷ [])))
+settled-long rs bufs (suc n) i spots = go (is_at (spot_at rs bufs i)) (settled-long rs bufs n (suc i) (put spots (2 * i) (place_of (spot_at rs bufs i) ∷ get_or bufs (2 * i + 1) 0 ∷ [])))
   where
-    go : (b : Bool) → length (settled rs bufs n (suc i) (put spots (2 * i) (place_of (spotAt rs bufs i) ∷ get_or bufs (2 * i + 1) 0 ∷ []))) ≡ length (put spots (2 * i) (place_of (spotAt rs bufs i) ∷ get_or bufs (2 * i + 1) 0 ∷ []))
-        → length (pick b (settled rs bufs n (suc i) (put spots (2 * i) (place_of (spotAt rs bufs i) ∷ get_or bufs (2 * i + 1) 0 ∷ []))) spots) ≡ length spots
-    go true e = e ∙ length-put spots (2 * i) (place_of (spotAt rs bufs i) ∷ get_or bufs (2 * i + 1) 0 ∷ [])
+    go : (b : Bool) → length (settled rs bufs n (suc i) (put spots (2 * i) (place_of (spot_at rs bufs i) ∷ get_or bufs (2 * i + 1) 0 ∷ []))) ≡ length (put spots (2 * i) (place_of (spot_at rs bufs i) ∷ get_or bufs (2 * i + 1) 0 ∷ []))
+        → length (pick b (settled rs bufs n (suc i) (put spots (2 * i) (place_of (spot_at rs bufs i) ∷ get_or bufs (2 * i + 1) 0 ∷ []))) spots) ≡ length spots
+    go true e = e ∙ length-put spots (2 * i) (place_of (spot_at rs bufs i) ∷ get_or bufs (2 * i + 1) 0 ∷ [])
     go false e = refl
 
 settled-below : (rs : List Region) (bufs : List ℕ) (n i : ℕ) (spots : List ℕ) (k : ℕ) → k < 2 * i → get_or (settled rs bufs n i spots) k 0 ≡ get_or spots k 0
 unfolding settled
 settled-below rs bufs zero i spots k h = refl
 settled-below rs bufs (suc n) i spots k h =
-    let ys : List ℕ = place_of (spotAt rs bufs i) ∷ get_or bufs (2 * i + 1) 0 ∷ [] in
+    let ys : List ℕ = place_of (spot_at rs bufs i) ∷ get_or bufs (2 * i + 1) 0 ∷ [] in
     let e : get_or (settled rs bufs n (suc i) (put spots (2 * i) ys)) k 0 ≡ get_or spots k 0 =
     settled-below rs bufs n (suc i) (put spots (2 * i) ys) k (omega arith) ∙ put-below spots (2 * i) ys k h in
-    on (λ (xs : List ℕ). get_or xs k 0 ≡ get_or spots k 0) (is_at (spotAt rs bufs i)) (λ t. e) (λ t. refl)
+    on (λ (xs : List ℕ). get_or xs k 0 ≡ get_or spots k 0) (is_at (spot_at rs bufs i)) (λ t. e) (λ t. refl)
 
-pub spots-long : (q : Queue) (rs : List Region) (bufs : List ℕ) (e : ℕ) (spots : List ℕ) → length (spotsOf q rs bufs e spots) ≡ length spots
-unfolding spotsOf
-spots-long q rs bufs e spots = length-put (settled rs bufs e 0 spots) (2 * e) (areaWords q) ∙ settled-long rs bufs e 0 spots
+pub spots-long : (q : Queue) (rs : List Region) (bufs : List ℕ) (e : ℕ) (spots : List ℕ) → length (spots_of q rs bufs e spots) ≡ length spots
+unfolding spots_of
+spots-long q rs bufs e spots = length-put (settled rs bufs e 0 spots) (2 * e) (area_words q) ∙ settled-long rs bufs e 0 spots
 
 -- a byte is in some buffer
 some-buffer : (n k : ℕ) (spots : List ℕ) → 1 ≤ total (spans n k spots) → (e : ℕ) → n ≤ e → 1 ≤ e
@@ -60,8 +60,8 @@ some-buffer zero k spots h e l = absurd (omega arith)
 some-buffer (suc n) k spots h e l = omega arith
 
 -- buffers that are in memory lie inside the slice
-reads-inside : (rs : List Region) (m : ℕ) (bufs spots : List ℕ) (n k : ℕ) → sound m rs ≡ true → ((i : ℕ) → i < k + n → Spot rs bufs spots i) → allInside m (spans n k spots) ≡ true
-unfolding allInside spans inside
+reads-inside : (rs : List Region) (m : ℕ) (bufs spots : List ℕ) (n k : ℕ) → sound m rs ≡ true → ((i : ℕ) → i < k + n → Spot rs bufs spots i) → all_inside m (spans n k spots) ≡ true
+unfolding all_inside spans inside
 reads-inside rs m bufs spots zero k s each = refl
 reads-inside rs m bufs spots (suc n) k s each =
     let x = each k (omega arith) in
@@ -76,26 +76,26 @@ at_place (At x) e = refl
 at_place Nothing e = let z : ◌≡◌ {A = Bool} true false = cc in absurd (let w : ◌≡◌ {A = ℕ} 0 1 = cc in omega arith)
 
 pub record Settled (rs : List Region) (bufs after : List ℕ) (j : ℕ) : Type 0 where
-  pub spot_is : spotAt rs bufs j ≡ At (get_or after (2 * j) 0)
+  pub spot_is : spot_at rs bufs j ≡ At (get_or after (2 * j) 0)
   pub len_is : get_or after (2 * j + 1) 0 ≡ get_or bufs (2 * j + 1) 0
 
 -- .. in the memory of the turn that settled it
-settled_here : (rs : List Region) (bufs : List ℕ) (n i : ℕ) (spots : List ℕ) → is_at (spotAt rs bufs i) ≡ true → 2 * i + 2 ≤ length spots
-    → Settled rs bufs (settled rs bufs n (suc i) (put spots (2 * i) (place_of (spotAt rs bufs i) ∷ get_or bufs (2 * i + 1) 0 ∷ []))) i
+settled_here : (rs : List Region) (bufs : List ℕ) (n i : ℕ) (spots : List ℕ) → is_at (spot_at rs bufs i) ≡ true → 2 * i + 2 ≤ length spots
+    → Settled rs bufs (settled rs bufs n (suc i) (put spots (2 * i) (place_of (spot_at rs bufs i) ∷ get_or bufs (2 * i + 1) 0 ∷ []))) i
 settled_here rs bufs n i spots t l =
-    let ys : List ℕ = place_of (spotAt rs bufs i) ∷ get_or bufs (2 * i + 1) 0 ∷ [] in
+    let ys : List ℕ = place_of (spot_at rs bufs i) ∷ get_or bufs (2 * i + 1) 0 ∷ [] in
     let w : (k : ℕ) → k < 2 → get_or (settled rs bufs n (suc i) (put spots (2 * i) ys)) (2 * i + k) 0 ≡ get_or ys k 0 =
     λ k v. settled-below rs bufs n (suc i) (put spots (2 * i) ys) (2 * i + k) (omega arith) ∙ put_in spots (2 * i) ys k v (omega arith) in
     let z : 2 * i + 0 ≡ 2 * i = omega arith in
-    record { spot_is = at_place (spotAt rs bufs i) t ∙ ap (λ (x : ℕ). At x) (sym (rw z at (w 0 (omega arith)))); len_is = w 1 (omega arith) }
+    record { spot_is = at_place (spot_at rs bufs i) t ∙ ap (λ (x : ℕ). At x) (sym (rw z at (w 0 (omega arith)))); len_is = w 1 (omega arith) }
 
 settled_at : (rs : List Region) (bufs : List ℕ) (n i : ℕ) (spots : List ℕ) (j : ℕ) → in_memory rs bufs n i ≡ true → 2 * (i + n) ≤ length spots → i ≤ j → j < i + n
     → Settled rs bufs (settled rs bufs n i spots) j
 unfolding in_memory settled
 settled_at rs bufs zero i spots j t l h u = absurd (omega arith)
 settled_at rs bufs (suc n) i spots j t l h u =
-    let p = picked (is_at (spotAt rs bufs i)) (in_memory rs bufs n (suc i)) t in
-    let ys : List ℕ = place_of (spotAt rs bufs i) ∷ get_or bufs (2 * i + 1) 0 ∷ [] in
+    let p = picked (is_at (spot_at rs bufs i)) (in_memory rs bufs n (suc i)) t in
+    let ys : List ℕ = place_of (spot_at rs bufs i) ∷ get_or bufs (2 * i + 1) 0 ∷ [] in
     let k : length (put spots (2 * i) ys) ≡ length spots = length-put spots (2 * i) ys in
     rw p.0
     (go (eqb i j) refl (settled_here rs bufs n i spots p.0 (omega arith))
@@ -112,23 +112,23 @@ spot-located rs a l x = on (λ (f : Found). f ≡ At x → (locate rs a l ≡ At
 
 -- the buffers' spots and the areas'
 spot-fits : (q : Queue) (rs : List Region) (bufs : List ℕ) (e : ℕ) (spots : List ℕ) (i : ℕ) → in_memory rs bufs e 0 ≡ true → 2 * e + 6 ≤ length spots → i < e
-    → Spot rs bufs (spotsOf q rs bufs e spots) i
-unfolding spotsOf
+    → Spot rs bufs (spots_of q rs bufs e spots) i
+unfolding spots_of
 spot-fits q rs bufs e spots i t l h =
     let s = settled_at rs bufs e 0 spots i t (omega arith) (omega arith) (omega arith) in
     let f = spot-located rs (get_or bufs (2 * i) 0) (get_or bufs (2 * i + 1) 0) (get_or (settled rs bufs e 0 spots) (2 * i) 0) s.spot_is in
     record {
-      located = rw (put-below (settled rs bufs e 0 spots) (2 * e) (areaWords q) (2 * i) (omega arith)) f.0;
-      len_is = put-below (settled rs bufs e 0 spots) (2 * e) (areaWords q) (2 * i + 1) (omega arith) ∙ s.len_is;
+      located = rw (put-below (settled rs bufs e 0 spots) (2 * e) (area_words q) (2 * i) (omega arith)) f.0;
+      len_is = put-below (settled rs bufs e 0 spots) (2 * e) (area_words q) (2 * i + 1) (omega arith) ∙ s.len_is;
       short = f.1;
     }
 
-areas-fit : (q : Queue) (rs : List Region) (bufs : List ℕ) (e : ℕ) (spots : List ℕ) → 2 * e + 6 ≤ length spots → Areas q (spotsOf q rs bufs e spots) e
-unfolding spotsOf areaWords
+areas-fit : (q : Queue) (rs : List Region) (bufs : List ℕ) (e : ℕ) (spots : List ℕ) → 2 * e + 6 ≤ length spots → Areas q (spots_of q rs bufs e spots) e
+unfolding spots_of area_words
 areas-fit q rs bufs e spots l =
     let k : length (settled rs bufs e 0 spots) ≡ length spots = settled-long rs bufs e 0 spots in
-    let w : (j i : ℕ) → j < 6 → i ≡ 2 * e + j → get_or (put (settled rs bufs e 0 spots) (2 * e) (areaWords q)) i 0 ≡ get_or (areaWords q) j 0 =
-    λ j i u z. ap (λ (x : ℕ). get_or (put (settled rs bufs e 0 spots) (2 * e) (areaWords q)) x 0) z ∙ put_in (settled rs bufs e 0 spots) (2 * e) (areaWords q) j u (omega arith) in
+    let w : (j i : ℕ) → j < 6 → i ≡ 2 * e + j → get_or (put (settled rs bufs e 0 spots) (2 * e) (area_words q)) i 0 ≡ get_or (area_words q) j 0 =
+    λ j i u z. ap (λ (x : ℕ). get_or (put (settled rs bufs e 0 spots) (2 * e) (area_words q)) x 0) z ∙ put_in (settled rs bufs e 0 spots) (2 * e) (area_words q) j u (omega arith) in
     record {
       desc-at = w 0 (2 * e) (omega arith) (omega arith);
       desc-len = w 1 (2 * e + 1) (omega arith) (omega arith);
@@ -140,17 +140,17 @@ areas-fit q rs bufs e spots l =
 
 -- the last tests: the form, apart, enough descriptors
 pub record Settling (q : ℕ) (own : List ℕ) (kind r reads e : ℕ) (spots nums after : List ℕ) : Type 0 where
-  pub form-is : formOk kind r spots reads e ≡ true
+  pub form-is : form_ok kind r spots reads e ≡ true
   pub apart-is : separate (spans (e + 3) 0 spots) ≡ true
   pub enough : e ≤ length (free q own)
   pub nums-are : after ≡ put nums 0 (take e (free q own))
 
-plan-on-ok : (q : ℕ) (own : List ℕ) (kind r reads e : ℕ) (spots nums : List ℕ) → (planOn q own kind r reads e spots nums).code ≡ 0
-    → Settling q own kind r reads e spots nums (planOn q own kind r reads e spots nums).nums × ((planOn q own kind r reads e spots nums).spots ≡ spots)
-unfolding planOn
+plan-on-ok : (q : ℕ) (own : List ℕ) (kind r reads e : ℕ) (spots nums : List ℕ) → (plan_on q own kind r reads e spots nums).code ≡ 0
+    → Settling q own kind r reads e spots nums (plan_on q own kind r reads e spots nums).nums × ((plan_on q own kind r reads e spots nums).spots ≡ spots)
+unfolding plan_on
 plan-on-ok q own kind r reads e spots nums =
     let P : Plan → Type 0 = λ p. p.code ≡ 0 → Settling q own kind r reads e spots nums p.nums × (p.spots ≡ spots) in
-    on P (formOk kind r spots reads e)
+    on P (form_ok kind r spots reads e)
     (λ f. on P (separate (spans (e + 3) 0 spots))
     (λ a z. (record { form-is = f; apart-is = a; enough = leb-true e (length (free q own)) (zero-picked (leb e (length (free q own))) z); nums-are = refl }, refl))
     (λ a z. absurd (omega arith)))
@@ -166,12 +166,12 @@ measured-is ss n e h = omega arith
 
 fits-settled : (q : Queue) (rs : List Region) (m : ℕ) (own : List ℕ) (kind r : ℕ) (bufs : List ℕ) (reads : ℕ) (spots nums after : List ℕ) → ReadyOk q rs m (length own)
     → CountsOk q.size (length bufs) reads (length spots) (length nums) → in_memory rs bufs (length bufs / 2) 0 ≡ true
-    → Settling q.size own kind r reads (length bufs / 2) (spotsOf q rs bufs (length bufs / 2) spots) nums after
-    → LayFit q rs m own kind r bufs reads (length bufs / 2) (spotsOf q rs bufs (length bufs / 2) spots) after
-unfolding formOk
+    → Settling q.size own kind r reads (length bufs / 2) (spots_of q rs bufs (length bufs / 2) spots) nums after
+    → LayFit q rs m own kind r bufs reads (length bufs / 2) (spots_of q rs bufs (length bufs / 2) spots) after
+unfolding form_ok
 fits-settled q rs m own kind r bufs reads spots nums after k c t s =
     let e = length bufs / 2 in
-    let ss = spotsOf q rs bufs e spots in
+    let ss = spots_of q rs bufs e spots in
     let w = spans (e - reads) reads ss in
     let f = both-split (eqb (measured (spans reads 0 ss)) r) (formed kind (measured (spans reads 0 ss)) (measured w)) s.form-is in
     let a : measured (spans reads 0 ss) ≡ r = eqb-true (measured (spans reads 0 ss)) r f.0 in
@@ -205,7 +205,7 @@ fits-settled q rs m own kind r bufs reads spots nums after k c t s =
       unused = λ i u. rw (n i u) (free-below q.size own i (omega (arith, s.enough)) k.own-long).1;
     }
   where
-    long : length (spotsOf q rs bufs (length bufs / 2) spots) ≡ length spots
+    long : length (spots_of q rs bufs (length bufs / 2) spots) ≡ length spots
     long = spots-long q rs bufs (length bufs / 2) spots
 
 -- laying answers 0: the request fits
@@ -217,11 +217,11 @@ plan-fits q rs m own kind r bufs reads spots nums =
     let e = length bufs / 2 in
     let P : Plan → Type 0 = λ p. p.code ≡ 0 → LayFit q rs m own kind r bufs reads e p.spots p.nums in
     on P (ready q rs m (length own))
-    (λ a. on P (countsOk q.size (length bufs) reads (length spots) (length nums))
+    (λ a. on P (counts_ok q.size (length bufs) reads (length spots) (length nums))
     (λ b. on P (in_memory rs bufs e 0)
-    (λ t z. let s = plan-on-ok q.size own kind r reads e (spotsOf q rs bufs e spots) nums z in
+    (λ t z. let s = plan-on-ok q.size own kind r reads e (spots_of q rs bufs e spots) nums z in
     rw s.1
-    (fits-settled q rs m own kind r bufs reads spots nums (planOn q.size own kind r reads e (spotsOf q rs bufs e spots) nums).nums (ready-ok q rs m (length own) a)
+    (fits-settled q rs m own kind r bufs reads spots nums (plan_on q.size own kind r reads e (spots_of q rs bufs e spots) nums).nums (ready-ok q rs m (length own) a)
     (counts-ok q.size (length bufs) reads (length spots) (length nums) b) t s.0))
     (λ t z. absurd (omega arith)))
     (λ b z. absurd (omega arith)))
@@ -259,6 +259,6 @@ pub laid-fits : (q : Queue) (rs : List Region) (m : ℕ) (own : List ℕ) (kind 
 laid-fits q rs m own kind r bufs reads spots nums code spots₂ nums₂ p z =
     rw (p.spots-are, p.nums-are) (plan-fits q rs m own kind r bufs reads spots nums (sym p.code_is ∙ z))
 
-pub one-more-mod : (n : ℕ) → oneMore (n % 65536) ≡ oneMore n
-unfolding oneMore
+pub one-more-mod : (n : ℕ) → plus_one (n % 65536) ≡ plus_one n
+unfolding plus_one
 one-more-mod n = omega arith

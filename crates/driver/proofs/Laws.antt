@@ -15,14 +15,14 @@ use lib.ListN.{get_or, length, take, drop, length-append, length-take}
 use Rattle.model.specs.Pick.{pick, both}
 use Rattle.model.specs.Bytes.{put, part, bytes}
 use Rattle.model.specs.Memory.{Region, overlap, sound}
-use Rattle.model.specs.Ring.{sizeOk, sizeMax}
+use Rattle.model.specs.Ring.{queue_size_ok, size_max}
 use Rattle.model.specs.declared.Queue.{Queue}
 use Rattle.model.specs.Step.{Span, Store, spans, buffer, apply, scatter}
 use Rattle.model.proofs.Lists.{put-put, put-nil, part-zero, part-first, part-all}
 use Rattle.model.proofs.Words.{length-bytes}
 use Rattle.model.proofs.Step.{spans-turn, spans-end, apply-append}
 use Rattle.requests.specs.Serve.{total}
-use Rattle.driver.specs.Lay.{span, spotAt, is_at, place_of, in_memory, settled, clearOf, separate, freeFrom, free, noted, descriptor, header, link, links, queueIn, ready, countsOk, availAt, layStores}
+use Rattle.driver.specs.Lay.{span, spot_at, is_at, place_of, in_memory, settled, clear_of, separate, free_from, free, noted, descriptor, header, link, links, queue_in, ready, counts_ok, avail_at, lay_stores}
 
 -- bytes of buffers
 pub total-turn : (i e : ℕ) (spots : List ℕ) → i < e → total (spans (e - i) i spots) ≡ get_or spots (2 * i + 1) 0 + total (spans (e - (i + 1)) (i + 1) spots)
@@ -35,17 +35,17 @@ total-end i e spots h = rw (spans-end i e spots h)
 
 -- a range beside buffers, and buffers beside each other
 pub clear-turn : (s : Span) (i e : ℕ) (spots : List ℕ) → i < e
-    → clearOf s (spans (e - i) i spots) ≡ pick (overlap s.at s.len (get_or spots (2 * i) 0) (get_or spots (2 * i + 1) 0)) false (clearOf s (spans (e - (i + 1)) (i + 1) spots))
-unfolding clearOf
+    → clear_of s (spans (e - i) i spots) ≡ pick (overlap s.at s.len (get_or spots (2 * i) 0) (get_or spots (2 * i + 1) 0)) false (clear_of s (spans (e - (i + 1)) (i + 1) spots))
+unfolding clear_of
 clear-turn s i e spots h = rw (spans-turn i e spots h)
 
-pub clear-end : (s : Span) (i e : ℕ) (spots : List ℕ) → e ≤ i → clearOf s (spans (e - i) i spots) ≡ true
-unfolding clearOf
+pub clear-end : (s : Span) (i e : ℕ) (spots : List ℕ) → e ≤ i → clear_of s (spans (e - i) i spots) ≡ true
+unfolding clear_of
 clear-end s i e spots h = rw (spans-end i e spots h)
 
 pub separate-turn : (i e : ℕ) (spots : List ℕ) → i < e
     → separate (spans (e - i) i spots)
-    ≡ pick (clearOf (span (get_or spots (2 * i) 0) (get_or spots (2 * i + 1) 0)) (spans (e - (i + 1)) (i + 1) spots)) (separate (spans (e - (i + 1)) (i + 1) spots)) false
+    ≡ pick (clear_of (span (get_or spots (2 * i) 0) (get_or spots (2 * i + 1) 0)) (spans (e - (i + 1)) (i + 1) spots)) (separate (spans (e - (i + 1)) (i + 1) spots)) false
 unfolding separate
 separate-turn i e spots h = rw (spans-turn i e spots h)
 
@@ -54,7 +54,7 @@ unfolding separate
 separate-end i e spots h = rw (spans-end i e spots h)
 
 -- buffers in memory, and their spots
-pub in-turn : (rs : List Region) (bufs : List ℕ) (i e : ℕ) → i < e → in_memory rs bufs (e - i) i ≡ pick (is_at (spotAt rs bufs i)) (in_memory rs bufs (e - (i + 1)) (i + 1)) false
+pub in-turn : (rs : List Region) (bufs : List ℕ) (i e : ℕ) → i < e → in_memory rs bufs (e - i) i ≡ pick (is_at (spot_at rs bufs i)) (in_memory rs bufs (e - (i + 1)) (i + 1)) false
 unfolding in_memory
 in-turn rs bufs i e h = let p : e - i ≡ suc (e - (i + 1)) = omega arith in rw (p, add-one i)
 
@@ -64,7 +64,7 @@ in_end rs bufs i e h = let p : e - i ≡ 0 = omega arith in rw p
 
 pub settled-turn : (rs : List Region) (bufs : List ℕ) (i e : ℕ) (spots : List ℕ) → i < e
     → settled rs bufs (e - i) i spots
-    ≡ pick (is_at (spotAt rs bufs i)) (settled rs bufs (e - (i + 1)) (i + 1) (put spots (2 * i) (place_of (spotAt rs bufs i) ∷ get_or bufs (2 * i + 1) 0 ∷ []))) spots
+    ≡ pick (is_at (spot_at rs bufs i)) (settled rs bufs (e - (i + 1)) (i + 1) (put spots (2 * i) (place_of (spot_at rs bufs i) ∷ get_or bufs (2 * i + 1) 0 ∷ []))) spots
 unfolding settled
 settled-turn rs bufs i e spots h = let p : e - i ≡ suc (e - (i + 1)) = omega arith in rw (p, add-one i)
 
@@ -81,18 +81,18 @@ areas-put spots e a b c d x y =
     rw (p, q, put-put spots (2 * e) (a ∷ b ∷ []) (c ∷ d ∷ []), put-put spots (2 * e) (a ∷ b ∷ c ∷ d ∷ []) (x ∷ y ∷ []))
 
 -- the free descriptors of one word more
-free-append : (n : ℕ) (xs ys : List ℕ) → freeFrom n (xs ++ ys) ≡ freeFrom n xs ++ freeFrom (n + length xs) ys
-unfolding freeFrom
+free-append : (n : ℕ) (xs ys : List ℕ) → free_from n (xs ++ ys) ≡ free_from n xs ++ free_from (n + length xs) ys
+unfolding free_from
 free-append n [] ys = rw add-zero
 free-append n (x ∷ xs) ys = go (eqb x 0) (free-append (suc n) xs ys)
   where
-    go : (b : Bool) → freeFrom (suc n) (xs ++ ys) ≡ freeFrom (suc n) xs ++ freeFrom (suc n + length xs) ys
-        → pick b (n ∷ freeFrom (suc n) (xs ++ ys)) (freeFrom (suc n) (xs ++ ys)) ≡ pick b (n ∷ freeFrom (suc n) xs) (freeFrom (suc n) xs) ++ freeFrom (n + suc (length xs)) ys
+    go : (b : Bool) → free_from (suc n) (xs ++ ys) ≡ free_from (suc n) xs ++ free_from (suc n + length xs) ys
+        → pick b (n ∷ free_from (suc n) (xs ++ ys)) (free_from (suc n) (xs ++ ys)) ≡ pick b (n ∷ free_from (suc n) xs) (free_from (suc n) xs) ++ free_from (n + suc (length xs)) ys
     go true e = rw (e, add-suc, suc-add)
     go false e = rw (e, add-suc, suc-add)
 
 pub free_more : (own : List ℕ) (i : ℕ) → i < length own → free (suc i) own ≡ free i own ++ pick (eqb (get_or own i 0) 0) (i ∷ []) []
-unfolding freeFrom
+unfolding free_from
 free_more own i h =
     let l : length (take i own) ≡ i = simp length-take (omega arith) in
     rw (take-suc own i 0 h, free-append 0 (take i own) (get_or own i 0 ∷ []), l, zero-add)
@@ -163,32 +163,32 @@ min-leb n l = go (leb n l) refl
     go false t = lt-leb n (min n l) (omega (arith, leb-false n l t))
 
 pub choose-start : (own nums : List ℕ) (n : ℕ) → (0 ≡ min n (length (free 0 own))) × (nums ≡ put nums 0 (take n (free 0 own)))
-unfolding freeFrom
+unfolding free_from
 choose-start own nums n = (omega arith, rw (take-nil n) (sym (put-nil nums 0)))
 
 -- what the first two tests of laying say
 pub record ReadyOk (q : Queue) (rs : List Region) (m own : ℕ) : Type 0 where
   pub map-sound : sound m rs ≡ true
-  pub size_ok : sizeOk q.size ≡ true
+  pub size_ok : queue_size_ok q.size ≡ true
   pub some_size : 1 ≤ q.size
-  pub small : q.size ≤ sizeMax
+  pub small : q.size ≤ size_max
   pub desc-in : q.desc + 16 * q.size ≤ m
   pub avail-in : q.avail + (6 + 2 * q.size) ≤ m
   pub used-in : q.used + (6 + 8 * q.size) ≤ m
   pub own-long : q.size ≤ own
 
 pub record QueueOk (q : Queue) (m : ℕ) : Type 0 where
-  pub size_ok : sizeOk q.size ≡ true
+  pub size_ok : queue_size_ok q.size ≡ true
   pub some_size : 1 ≤ q.size
-  pub small : q.size ≤ sizeMax
+  pub small : q.size ≤ size_max
   pub desc-in : q.desc + 16 * q.size ≤ m
   pub avail-in : q.avail + (6 + 2 * q.size) ≤ m
   pub used-in : q.used + (6 + 8 * q.size) ≤ m
 
-pub queue-ok : (q : Queue) (m : ℕ) → queueIn q m ≡ true → QueueOk q m
-unfolding queueIn
+pub queue-ok : (q : Queue) (m : ℕ) → queue_in q m ≡ true → QueueOk q m
+unfolding queue_in
 queue-ok q m e =
-    let a = both-split (sizeOk q.size) _ e in
+    let a = both-split (queue_size_ok q.size) _ e in
     let b = both-split (leb (q.desc + 16 * q.size) m) _ a.1 in
     let d = both-split (leb (q.avail + (6 + 2 * q.size)) m) _ b.1 in
     let n = size-range q.size a.0 in
@@ -198,7 +198,7 @@ pub ready-ok : (q : Queue) (rs : List Region) (m own : ℕ) → ready q rs m own
 unfolding ready
 ready-ok q rs m own e =
     let a = both-split (sound m rs) _ e in
-    let b = both-split (queueIn q m) _ a.1 in
+    let b = both-split (queue_in q m) _ a.1 in
     let k = queue-ok q m b.0 in
     record {
       map-sound = a.0;
@@ -218,8 +218,8 @@ pub record CountsOk (q words reads spots nums : ℕ) : Type 0 where
   pub spots-long : 2 * (words / 2) + 6 ≤ spots
   pub nums-long : words / 2 ≤ nums
 
-pub counts-ok : (q words reads spots nums : ℕ) → countsOk q words reads spots nums ≡ true → CountsOk q words reads spots nums
-unfolding countsOk
+pub counts-ok : (q words reads spots nums : ℕ) → counts_ok q words reads spots nums ≡ true → CountsOk q words reads spots nums
+unfolding counts_ok
 counts-ok q words reads spots nums e =
     let a = both-split (eqb (words % 2) 0) _ e in
     let b = both-split (leb (words / 2) q) _ a.1 in
@@ -230,14 +230,14 @@ counts-ok q words reads spots nums e =
 
 -- the writes, one after the other
 pub write-stores : (q : Queue) (nx : ℕ) (message : List ℕ) (reads e : ℕ) (bufs spots nums mem : List ℕ)
-    → put (apply (links bufs nums q.desc reads e e 0) (apply (scatter (spans (reads - 0) 0 spots) (part 0 (length message) message)) mem)) (availAt q nx) (bytes 2 (get_or nums 0 0))
-    ≡ apply (layStores q nx message reads e bufs spots nums) mem
-unfolding layStores apply
+    → put (apply (links bufs nums q.desc reads e e 0) (apply (scatter (spans (reads - 0) 0 spots) (part 0 (length message) message)) mem)) (avail_at q nx) (bytes 2 (get_or nums 0 0))
+    ≡ apply (lay_stores q nx message reads e bufs spots nums) mem
+unfolding lay_stores apply
 write-stores q nx message reads e bufs spots nums mem =
     let z : reads - 0 ≡ reads = omega arith in
     rw (
       z,
       part-all message,
-      apply-append (scatter (spans reads 0 spots) message) (links bufs nums q.desc reads e e 0 ++ (record { to = availAt q nx; bytes = bytes 2 (get_or nums 0 0) } ∷ [])) mem,
-      apply-append (links bufs nums q.desc reads e e 0) (record { to = availAt q nx; bytes = bytes 2 (get_or nums 0 0) } ∷ []) (apply (scatter (spans reads 0 spots) message) mem),
+      apply-append (scatter (spans reads 0 spots) message) (links bufs nums q.desc reads e e 0 ++ (record { to = avail_at q nx; bytes = bytes 2 (get_or nums 0 0) } ∷ [])) mem,
+      apply-append (links bufs nums q.desc reads e e 0) (record { to = avail_at q nx; bytes = bytes 2 (get_or nums 0 0) } ∷ []) (apply (scatter (spans reads 0 spots) message) mem),
     )

@@ -1,9 +1,9 @@
 -- What laying stands on once its tests are passed.
 use Rattle.std.specs.Prelude.{ℕ, zero, suc, ◌+◌, ◌-◌, ◌*◌, ◌/◌, ◌≤◌, ◌<◌, true, List, [], ◌∷◌, ◌++◌, ◌≡◌, get_or, length}
 use Rattle.model.specs.Memory.{Region, sound, locate}
-use Rattle.model.specs.Ring.{sizeOk}
+use Rattle.model.specs.Ring.{queue_size_ok}
 use Rattle.model.specs.Step.{Span, spans}
-use Rattle.model.specs.Sane.{allInside}
+use Rattle.model.specs.Sane.{all_inside}
 use Rattle.model.specs.declared.Found.{Found}
 use Rattle.model.specs.declared.Found.TheVariants.{At, Nothing}
 use Rattle.model.specs.declared.Queue.{Queue}
@@ -28,7 +28,7 @@ pub record Areas (q : Queue) (spots : List ℕ) (e : ℕ) : Type 0 where
 -- a request of e buffers over a memory of m bytes, r of them of message; q's areas; numbers of free descriptors, lowest first
 pub record LayFit (q : Queue) (rs : List Region) (m : ℕ) (own : List ℕ) (kind r : ℕ) (bufs : List ℕ) (reads e : ℕ) (spots nums : List ℕ) : Type 0 where
   pub map-sound : sound m rs ≡ true
-  pub size_ok : sizeOk q.size ≡ true
+  pub size_ok : queue_size_ok q.size ≡ true
   pub desc-in : q.desc + 16 * q.size ≤ m
   pub avail-in : q.avail + (6 + 2 * q.size) ≤ m
   pub used-in : q.used + (6 + 8 * q.size) ≤ m
@@ -60,5 +60,5 @@ pub record WriteFit (q : Queue) (m e reads : ℕ) (spots nums : List ℕ) : Type
   pub reads_in : reads ≤ e
   pub spots-long : 2 * e ≤ length spots
   pub nums-long : e ≤ length nums
-  pub buffers-in : allInside m (spans reads 0 spots) ≡ true
+  pub buffers-in : all_inside m (spans reads 0 spots) ≡ true
   pub numbers : Numbers q.size e nums

@@ -3,8 +3,8 @@
 use Rattle.std.specs.Prelude.{ℕ, zero, suc, ◌+◌, ◌-◌, ◌*◌, ◌/◌, ◌%◌, ◌^◌, min, Bool, true, false, List, [], ◌∷◌, ◌++◌, ◌≡◌, leb, ltb, eqb, get_or, length, take, set}
 use Rattle.model.specs.Pick.{pick, both}
 use Rattle.model.specs.Bytes.{put, part, bytes}
-use Rattle.model.specs.Memory.{Region, regions, memoryCode, overlap, sound, locate}
-use Rattle.model.specs.Ring.{sizeOk, areas, oneMore}
+use Rattle.model.specs.Memory.{Region, regions, memory_code, overlap, sound, locate}
+use Rattle.model.specs.Ring.{queue_size_ok, areas, plus_one}
 use Rattle.model.specs.Request.{verdict, status}
 use Rattle.model.specs.Step.{Span, Store, apply, scatter, spans}
 use Rattle.model.specs.declared.Found.{Found}
@@ -47,12 +47,12 @@ links bufs nums desc reads e zero i = []
 links bufs nums desc reads e (suc n) i = link bufs nums desc reads e i ∷ links bufs nums desc reads e n (suc i)
 
 -- The driver's own words, one for each descriptor: 0, or 1 + the head of the request that has it. The free ones' numbers, lowest first.
-unfoldable pub freeFrom : ℕ → List ℕ → List ℕ
-freeFrom n [] = []
-freeFrom n (o ∷ os) = pick (eqb o 0) (n ∷ freeFrom (suc n) os) (freeFrom (suc n) os)
+unfoldable pub free_from : ℕ → List ℕ → List ℕ
+free_from n [] = []
+free_from n (o ∷ os) = pick (eqb o 0) (n ∷ free_from (suc n) os) (free_from (suc n) os)
 
 abbrev pub free : ℕ → List ℕ → List ℕ
-free q own = freeFrom 0 (take q own)
+free q own = free_from 0 (take q own)
 
 -- descriptor i, whose word is o, where k of n are noted already
 unfoldable pub noted : ℕ → ℕ → ℕ → ℕ → List ℕ
@@ -75,35 +75,35 @@ unfoldable pub place_of : Found → ℕ
 place_of (At x) = x
 place_of Nothing = 0
 
-abbrev pub spotAt : List Region → List ℕ → ℕ → Found
-spotAt rs bufs i = spot_of rs (get_or bufs (2 * i) 0) (get_or bufs (2 * i + 1) 0)
+abbrev pub spot_at : List Region → List ℕ → ℕ → Found
+spot_at rs bufs i = spot_of rs (get_or bufs (2 * i) 0) (get_or bufs (2 * i + 1) 0)
 
 -- n buffers from buffer i on are in memory ..
 unfoldable pub in_memory : List Region → List ℕ → ℕ → ℕ → Bool
 in_memory rs bufs zero i = true
-in_memory rs bufs (suc n) i = pick (is_at (spotAt rs bufs i)) (in_memory rs bufs n (suc i)) false
+in_memory rs bufs (suc n) i = pick (is_at (spot_at rs bufs i)) (in_memory rs bufs n (suc i)) false
 
 -- .. and their spots, two words each, slice offset and length, as far as they are in memory
 unfoldable pub settled : List Region → List ℕ → ℕ → ℕ → List ℕ → List ℕ
 settled rs bufs zero i spots = spots
 settled rs bufs (suc n) i spots =
-    pick (is_at (spotAt rs bufs i)) (settled rs bufs n (suc i) (put spots (2 * i) (place_of (spotAt rs bufs i) ∷ get_or bufs (2 * i + 1) 0 ∷ []))) spots
+    pick (is_at (spot_at rs bufs i)) (settled rs bufs n (suc i) (put spots (2 * i) (place_of (spot_at rs bufs i) ∷ get_or bufs (2 * i + 1) 0 ∷ []))) spots
 
 -- the three areas, as spots behind the buffers' own
-unfoldable pub areaWords : Queue → List ℕ
-areaWords q = q.desc ∷ (16 * q.size) ∷ q.avail ∷ (6 + 2 * q.size) ∷ q.used ∷ (6 + 8 * q.size) ∷ []
+unfoldable pub area_words : Queue → List ℕ
+area_words q = q.desc ∷ (16 * q.size) ∷ q.avail ∷ (6 + 2 * q.size) ∷ q.used ∷ (6 + 8 * q.size) ∷ []
 
 abbrev pub span : ℕ → ℕ → Span
 span at len = record { at = at; len = len }
 
 -- no two have a byte of the slice in common
-unfoldable pub clearOf : Span → List Span → Bool
-clearOf s [] = true
-clearOf s (t ∷ ss) = pick (overlap s.at s.len t.at t.len) false (clearOf s ss)
+unfoldable pub clear_of : Span → List Span → Bool
+clear_of s [] = true
+clear_of s (t ∷ ss) = pick (overlap s.at s.len t.at t.len) false (clear_of s ss)
 
 unfoldable pub separate : List Span → Bool
 separate [] = true
-separate (s ∷ ss) = pick (clearOf s ss) (separate ss) false
+separate (s ∷ ss) = pick (clear_of s ss) (separate ss) false
 
 -- 03 §3: there is a writable byte for the status, and some disk accepts a request of this type with r readable and w writable bytes: the largest
 -- one, at sector 0
@@ -117,22 +117,22 @@ most = 2097152
 unfoldable pub measured : List Span → ℕ
 measured ss = min (total ss) (most + 1)
 
-unfoldable pub formOk : ℕ → ℕ → List ℕ → ℕ → ℕ → Bool
-formOk kind r spots reads e =
+unfoldable pub form_ok : ℕ → ℕ → List ℕ → ℕ → ℕ → Bool
+form_ok kind r spots reads e =
     both (eqb (measured (spans reads 0 spots)) r) (formed kind (measured (spans reads 0 spots)) (measured (spans (e - reads) reads spots)))
 
 -- the queue is one that lies in a memory of m bytes with this map, and the driver's own words are enough
-unfoldable pub queueIn : Queue → ℕ → Bool
-queueIn q m =
-    both (sizeOk q.size)
+unfoldable pub queue_in : Queue → ℕ → Bool
+queue_in q m =
+    both (queue_size_ok q.size)
     (both (leb (q.desc + 16 * q.size) m) (both (leb (q.avail + (6 + 2 * q.size)) m) (leb (q.used + (6 + 8 * q.size)) m)))
 
 unfoldable pub ready : Queue → List Region → ℕ → ℕ → Bool
-ready q rs m own = both (sound m rs) (both (queueIn q m) (leb q.size own))
+ready q rs m own = both (sound m rs) (both (queue_in q m) (leb q.size own))
 
 -- whole buffers, at most as many as the queue has descriptors, and private memory for them
-unfoldable pub countsOk : ℕ → ℕ → ℕ → ℕ → ℕ → Bool
-countsOk q words reads spots nums =
+unfoldable pub counts_ok : ℕ → ℕ → ℕ → ℕ → ℕ → Bool
+counts_ok q words reads spots nums =
     both (eqb (words % 2) 0)
     (both (leb (words / 2) q) (both (leb reads (words / 2)) (both (leb (2 * (words / 2) + 6) spots) (leb (words / 2) nums))))
 
@@ -146,25 +146,25 @@ abbrev pub planned : ℕ → List ℕ → List ℕ → Plan
 planned code spots nums = record { code = code; spots = spots; nums = nums }
 
 -- "63 no request that a disk could accept · 64 buffers overlap each other or an area of the queue · 65 too few free descriptors"
-unfoldable pub planOn : ℕ → List ℕ → ℕ → ℕ → ℕ → ℕ → List ℕ → List ℕ → Plan
-planOn q own kind r reads e spots nums =
-    pick (formOk kind r spots reads e)
+unfoldable pub plan_on : ℕ → List ℕ → ℕ → ℕ → ℕ → ℕ → List ℕ → List ℕ → Plan
+plan_on q own kind r reads e spots nums =
+    pick (form_ok kind r spots reads e)
     (pick (separate (spans (e + 3) 0 spots))
     (planned (pick (leb e (length (free q own))) 0 65) spots (put nums 0 (take e (free q own))))
     (planned 64 spots nums))
     (planned 63 spots nums)
 
 -- the spots of a request's e buffers, the areas' behind them
-unfoldable pub spotsOf : Queue → List Region → List ℕ → ℕ → List ℕ → List ℕ
-spotsOf q rs bufs e spots = put (settled rs bufs e 0 spots) (2 * e) (areaWords q)
+unfoldable pub spots_of : Queue → List Region → List ℕ → ℕ → List ℕ → List ℕ
+spots_of q rs bufs e spots = put (settled rs bufs e 0 spots) (2 * e) (area_words q)
 
 -- "60 this memory is not the queue's · 61 the numbers of buffers · 62 a buffer isn't in memory", then as above; m bytes of memory, r of message
 unfoldable pub plan : Queue → List Region → ℕ → List ℕ → ℕ → ℕ → List ℕ → ℕ → List ℕ → List ℕ → Plan
 plan q rs m own kind r bufs reads spots nums =
     pick (ready q rs m (length own))
-    (pick (countsOk q.size (length bufs) reads (length spots) (length nums))
+    (pick (counts_ok q.size (length bufs) reads (length spots) (length nums))
     (pick (in_memory rs bufs (length bufs / 2) 0)
-    (planOn q.size own kind r reads (length bufs / 2) (spotsOf q rs bufs (length bufs / 2) spots) nums)
+    (plan_on q.size own kind r reads (length bufs / 2) (spots_of q rs bufs (length bufs / 2) spots) nums)
     (planned 62 (settled rs bufs (length bufs / 2) 0 spots) nums))
     (planned 61 spots nums))
     (planned 60 spots nums)
@@ -176,15 +176,15 @@ pub record PlanIs (p : Plan) (r : ℕ) (spots nums : List ℕ) : Type 0 where
   pub nums-are : nums ≡ p.nums
 
 -- the place of available entry number n
-abbrev pub availAt : Queue → ℕ → ℕ
-availAt q n = q.avail + (4 + 2 * (n % q.size))
+abbrev pub avail_at : Queue → ℕ → ℕ
+avail_at q n = q.avail + (4 + 2 * (n % q.size))
 
 -- What laying writes to memory, in this order: the message over the readable buffers, the descriptors, the head into the available ring.
 -- idx is another call's: a device on another processor must see the entry first.
-unfoldable pub layStores : Queue → ℕ → List ℕ → ℕ → ℕ → List ℕ → List ℕ → List ℕ → List Store
-layStores q nx message reads e bufs spots nums =
+unfoldable pub lay_stores : Queue → ℕ → List ℕ → ℕ → ℕ → List ℕ → List ℕ → List ℕ → List Store
+lay_stores q nx message reads e bufs spots nums =
     scatter (spans reads 0 spots) message
-    ++ (links bufs nums q.desc reads e e 0 ++ (record { to = availAt q nx; bytes = bytes 2 (get_or nums 0 0) } ∷ []))
+    ++ (links bufs nums q.desc reads e e 0 ++ (record { to = avail_at q nx; bytes = bytes 2 (get_or nums 0 0) } ∷ []))
 
 -- what laying leaves in every lent slice, and the driver afterwards
 pub record Lay : Type 0 where
@@ -195,12 +195,12 @@ pub record Lay : Type 0 where
   pub spots : List ℕ
   pub nums : List ℕ
 
-unfoldable pub layOn : Driver → List ℕ → List ℕ → ℕ → ℕ → List ℕ → List ℕ → ℕ → Plan → Lay
-layOn d own mem kind sector message bufs reads p =
+unfoldable pub lay_on : Driver → List ℕ → List ℕ → ℕ → ℕ → List ℕ → List ℕ → ℕ → Plan → Lay
+lay_on d own mem kind sector message bufs reads p =
     pick (eqb p.code 0)
     (record {
-      answer = Head (record { queue = d.queue; next = oneMore d.next; seen = d.seen }) (get_or p.nums 0 0);
-      mem = apply (layStores d.queue d.next (put message 0 (header kind sector)) reads (length bufs / 2) bufs p.spots p.nums) mem;
+      answer = Head (record { queue = d.queue; next = plus_one d.next; seen = d.seen }) (get_or p.nums 0 0);
+      mem = apply (lay_stores d.queue d.next (put message 0 (header kind sector)) reads (length bufs / 2) bufs p.spots p.nums) mem;
       own = marked (part 0 (length bufs / 2) p.nums) (1 + get_or p.nums 0 0) own;
       message = put message 0 (header kind sector);
       spots = p.spots;
@@ -210,7 +210,7 @@ layOn d own mem kind sector message bufs reads p =
 
 unfoldable pub lay : Driver → List ℕ → List Region → List ℕ → ℕ → ℕ → List ℕ → List ℕ → ℕ → List ℕ → List ℕ → Lay
 lay d own rs mem kind sector message bufs reads spots nums =
-    layOn d own mem kind sector message bufs reads (plan d.queue rs (length mem) own kind (length message) bufs reads spots nums)
+    lay_on d own mem kind sector message bufs reads (plan d.queue rs (length mem) own kind (length message) bufs reads spots nums)
 
 -- the contract of `lay`: the answer, and every lent slice afterwards
 pub record LayIs (x : Lay) (r : Laid) (mem own message spots nums : List ℕ) : Type 0 where
@@ -222,17 +222,17 @@ pub record LayIs (x : Lay) (r : Laid) (mem own message spots nums : List ℕ) : 
   pub nums-are : nums ≡ x.nums
 
 -- idx of the available ring becomes the driver's next; 60 where this memory is not the queue's
-unfoldable pub publishCode : Driver → ℕ → ℕ
-publishCode d m = pick (queueIn d.queue m) 0 60
+unfoldable pub publish_code : Driver → ℕ → ℕ
+publish_code d m = pick (queue_in d.queue m) 0 60
 
 unfoldable pub published : Driver → List ℕ → List ℕ
-published d mem = pick (queueIn d.queue (length mem)) (put mem (d.queue.avail + 2) (bytes 2 d.next)) mem
+published d mem = pick (queue_in d.queue (length mem)) (put mem (d.queue.avail + 2) (bytes 2 d.next)) mem
 
 -- set-up: the refusals of hd_memory and hd_enable_at, in their order, or a driver with both counts at start
-unfoldable pub attachedWith : ℕ → Areas → Attached
-attachedWith start (Areas.Refused n) = Attached.Refused n
-attachedWith start (Areas.Placed q) = pick (leb 65536 start) (Attached.Refused 46) (Attached.Ready (record { queue = q; next = start; seen = start }))
+unfoldable pub attached_with : ℕ → Areas → Attached
+attached_with start (Areas.Refused n) = Attached.Refused n
+attached_with start (Areas.Placed q) = pick (leb 65536 start) (Attached.Refused 46) (Attached.Ready (record { queue = q; next = start; seen = start }))
 
 unfoldable pub attached : List ℕ → ℕ → ℕ → ℕ → ℕ → ℕ → ℕ → Attached
 attached words m size desc avail used start =
-    pick (eqb (memoryCode m words) 0) (attachedWith start (areas (regions words) size desc avail used)) (Attached.Refused (memoryCode m words))
+    pick (eqb (memory_code m words) 0) (attached_with start (areas (regions words) size desc avail used)) (Attached.Refused (memory_code m words))

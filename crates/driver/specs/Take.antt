@@ -3,12 +3,12 @@
 use Rattle.std.specs.Prelude.{ℕ, zero, suc, ◌+◌, ◌-◌, ◌*◌, ◌/◌, ◌%◌, Bool, true, false, List, [], ◌∷◌, leb, ltb, eqb, get_or, length, take, set}
 use Rattle.model.specs.Pick.{pick, both}
 use Rattle.model.specs.Bytes.{put, word}
-use Rattle.model.specs.Ring.{pending, oneMore}
-use Rattle.model.specs.Step.{Span, spans, usedAt}
-use Rattle.model.specs.Sane.{allInside}
+use Rattle.model.specs.Ring.{pending, plus_one}
+use Rattle.model.specs.Step.{Span, spans, used_at}
+use Rattle.model.specs.Sane.{all_inside}
 use Rattle.model.specs.declared.Queue.{Queue}
 use Rattle.requests.specs.Serve.{gather, total}
-use Rattle.driver.specs.Lay.{queueIn, measured}
+use Rattle.driver.specs.Lay.{queue_in, measured}
 use Rattle.driver.specs.declared.Driver.{Driver}
 use Rattle.driver.specs.declared.Taken.{Taken}
 use Rattle.driver.specs.declared.Taken.TheVariants.{None, Strange, Answer}
@@ -16,8 +16,8 @@ use Rattle.driver.specs.declared.Byte.{Byte}
 use Rattle.driver.specs.declared.Byte.TheVariants.{Unread, Is}
 
 -- idx of the used ring; the driver's own count where this memory is not the queue's
-unfoldable pub usedIdx : Driver → List ℕ → ℕ
-usedIdx d mem = pick (queueIn d.queue (length mem)) (word 2 (d.queue.used + 2) mem) d.seen
+unfoldable pub used_idx : Driver → List ℕ → ℕ
+used_idx d mem = pick (queue_in d.queue (length mem)) (word 2 (d.queue.used + 2) mem) d.seen
 
 -- a request with this head is outstanding
 unfoldable pub outstanding : ℕ → List ℕ → ℕ → Bool
@@ -35,7 +35,7 @@ released (suc q) v (o ∷ own) = pick (eqb o v) 0 o ∷ released q v own
 
 -- this memory is the queue's, there is a word for each descriptor, and the two indices are indices
 unfoldable pub countable : Driver → ℕ → ℕ → ℕ → Bool
-countable d m own idx = both (queueIn d.queue m) (both (leb d.queue.size own) (both (ltb idx 65536) (ltb d.seen 65536)))
+countable d m own idx = both (queue_in d.queue m) (both (leb d.queue.size own) (both (ltb idx 65536) (ltb d.seen 65536)))
 
 -- What a used entry {id, len} is taken for: none is waiting · 66 more than the queue can hold · 67 it names no outstanding request · 60 as in laying.
 unfoldable pub judged : Driver → ℕ → List ℕ → ℕ → ℕ → ℕ → Taken
@@ -43,33 +43,33 @@ judged d m own idx id len =
     pick (countable d m (length own) idx)
     (pick (eqb (pending idx d.seen) 0) None
     (pick (ltb d.queue.size (pending idx d.seen)) (Strange 66)
-    (pick (outstanding d.queue.size own id) (Answer (record { queue = d.queue; next = d.next; seen = oneMore d.seen }) id len) (Strange 67))))
+    (pick (outstanding d.queue.size own id) (Answer (record { queue = d.queue; next = d.next; seen = plus_one d.seen }) id len) (Strange 67))))
     (Strange 60)
 
 -- half of the next used entry, its id (0) or its length (4), as fetched; 0 where this memory is not the queue's
-unfoldable pub usedWord : Driver → List ℕ → ℕ → ℕ
-usedWord d mem half = pick (queueIn d.queue (length mem)) (word 4 (usedAt d.queue d.seen + half) mem) 0
+unfoldable pub used_word : Driver → List ℕ → ℕ → ℕ
+used_word d mem half = pick (queue_in d.queue (length mem)) (word 4 (used_at d.queue d.seen + half) mem) 0
 
 unfoldable pub taken : Driver → List ℕ → List ℕ → ℕ → Taken
-taken d own mem idx = judged d (length mem) own idx (usedWord d mem 0) (usedWord d mem 4)
+taken d own mem idx = judged d (length mem) own idx (used_word d mem 0) (used_word d mem 4)
 
 -- an answer gives its descriptors back
-unfoldable pub ownAfter : ℕ → List ℕ → Taken → List ℕ
-ownAfter q own None = own
-ownAfter q own (Strange n) = own
-ownAfter q own (Answer d id len) = released q (1 + id) own
+unfoldable pub own_after : ℕ → List ℕ → Taken → List ℕ
+own_after q own None = own
+own_after q own (Strange n) = own
+own_after q own (Answer d id len) = released q (1 + id) own
 
 -- a request's e buffers, the first `reads` readable: spots for them all, inside a memory of m bytes, and a writable one at the end
-unfoldable pub spotsIn : ℕ → List ℕ → ℕ → ℕ → Bool
-spotsIn m spots reads e =
-    both (leb 1 e) (both (ltb reads e) (both (leb e (length spots / 2)) (both (allInside m (spans (e - reads) reads spots)) (leb 1 (get_or spots (2 * (e - 1) + 1) 0)))))
+unfoldable pub spots_in : ℕ → List ℕ → ℕ → ℕ → Bool
+spots_in m spots reads e =
+    both (leb 1 e) (both (ltb reads e) (both (leb e (length spots / 2)) (both (all_inside m (spans (e - reads) reads spots)) (leb 1 (get_or spots (2 * (e - 1) + 1) 0)))))
 
 -- "The last writable byte is for the status."
-unfoldable pub statusOf : List ℕ → List ℕ → ℕ → ℕ → Byte
-statusOf mem spots reads e =
-    pick (spotsIn (length mem) spots reads e) (Is (get_or mem (get_or spots (2 * (e - 1)) 0 + (get_or spots (2 * (e - 1) + 1) 0 - 1)) 0)) Unread
+unfoldable pub status_of : List ℕ → List ℕ → ℕ → ℕ → Byte
+status_of mem spots reads e =
+    pick (spots_in (length mem) spots reads e) (Is (get_or mem (get_or spots (2 * (e - 1)) 0 + (get_or spots (2 * (e - 1) + 1) 0 - 1)) 0)) Unread
 
 -- "The writable bytes before it are for data from the disk.": as many of them as `out` holds
 unfoldable pub data_of : List ℕ → List ℕ → ℕ → ℕ → List ℕ → List ℕ
 data_of mem spots reads e out =
-    pick (spotsIn (length mem) spots reads e) (put out 0 (take (length out) (gather mem (spans (e - reads) reads spots)))) out
+    pick (spots_in (length mem) spots reads e) (put out 0 (take (length out) (gather mem (spans (e - reads) reads spots)))) out

@@ -1,7 +1,7 @@
 // Has the request a form of 03 §3, and are its buffers apart?
 ghost use Rattle.std.specs.Prelude.{◌≡◌, ◌+◌, ◌-◌, ◌*◌, ◌≤◌, ◌<◌, length};
 ghost use Rattle.model.specs.Step.{spans};
-ghost use Rattle.driver.specs.Lay.{span, formed, measured, formOk, clearOf, separate};
+ghost use Rattle.driver.specs.Lay.{span, formed, measured, form_ok, clear_of, separate};
 
 use model::Disk;
 
@@ -42,7 +42,7 @@ pub fn formed(kind: usize, r: usize, w: usize) -> bool
 pub fn form_ok(kind: usize, r: usize, spots: &[usize], reads: usize, e: usize) -> bool
     requires reads_le_e { reads ≤ e }
     requires e_in_bounds { 2 * e ≤ length spots.now }
-    ensures { result ≡ formOk kind r spots.now reads e }
+    ensures { result ≡ form_ok kind r spots.now reads e }
 {
     let readable = measure(spots, 0, reads);
     if readable == r {
@@ -55,7 +55,7 @@ pub fn form_ok(kind: usize, r: usize, spots: &[usize], reads: usize, e: usize) -
 // Has the range no byte in common with the spots from first up to end?
 fn clear_of(spots: &[usize], first: usize, end: usize, at: usize, len: usize) -> bool
     requires { 2 * end ≤ length spots.now }
-    ensures { result ≡ clearOf (span at len) (spans (end - first) first spots.now) }
+    ensures { result ≡ clear_of (span at len) (spans (end - first) first spots.now) }
 {
     let mut i = first;
     while i < end {

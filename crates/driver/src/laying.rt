@@ -2,13 +2,13 @@
 // before the idx that covers it, so the caller's barrier goes between them.
 ghost use Rattle.std.specs.Prelude.{◌≡◌, length};
 ghost use Rattle.model.specs.Memory.{regions};
-ghost use Rattle.driver.specs.Lay.{attachedWith, attached, lay, LayIs, publishCode, published};
+ghost use Rattle.driver.specs.Lay.{attached_with, attached, lay, LayIs, publish_code, published};
 
 use crate::{Ask, Attached, Driver, Laid, plan, room, writes};
 use model::Areas;
 
 fn attached_with(start: usize, found: Areas) -> Attached
-    ensures { result ≡ attachedWith start found }
+    ensures { result ≡ attached_with start found }
 {
     match found {
         Areas::Refused(n) => Attached::Refused(n),
@@ -91,7 +91,7 @@ pub fn lay(
 
 // Shows the device every request that was laid: idx of the available ring, by one store.
 pub fn publish(d: Driver, mem: &mut [u8]) -> usize
-    ensures value { result ≡ publishCode d (length mem.old) }
+    ensures value { result ≡ publish_code d (length mem.old) }
     ensures mem_after { mem.new ≡ published d mem.old }
 {
     let q = d.queue;

@@ -2,7 +2,7 @@
 ghost use Rattle.std.specs.Prelude.{◌≡◌, true, [], ◌∷◌, ◌+◌, ◌*◌, ◌≤◌, ◌<◌, length, take, leb};
 ghost use Rattle.model.specs.Bytes.{put};
 ghost use Rattle.model.specs.Memory.{regions};
-ghost use Rattle.driver.specs.Lay.{free, noted, planOn, plan, PlanIs};
+ghost use Rattle.driver.specs.Lay.{free, noted, plan_on, plan, PlanIs};
 
 use crate::{form, room};
 use model::Queue;
@@ -54,7 +54,7 @@ fn plan_on(
     requires reads_le_e { reads ≤ e }
     requires e_in_bounds { 2 * e + 6 ≤ length spots.now }
     requires e_in_bounds_2 { e ≤ length nums.old }
-    ensures { PlanIs (planOn q own.now kind r reads e spots.now nums.old) result spots.now nums.new }
+    ensures { PlanIs (plan_on q own.now kind r reads e spots.now nums.old) result spots.now nums.new }
 {
     if form::form_ok(kind, r, spots, reads, e) {
         if form::separate(spots, e + 3) {

@@ -2,15 +2,15 @@
 ghost use Rattle.std.specs.Prelude.{◌≡◌, true, ◌+◌, ◌-◌, ◌*◌, ◌≤◌, ◌<◌, length, take};
 ghost use Rattle.model.specs.Bytes.{put, word};
 ghost use Rattle.model.specs.Step.{spans};
-ghost use Rattle.model.specs.Sane.{allInside};
+ghost use Rattle.model.specs.Sane.{all_inside};
 ghost use Rattle.requests.specs.Serve.{gather};
-ghost use Rattle.driver.specs.Take.{usedIdx, outstanding, freed, released, countable, judged, usedWord, taken, ownAfter, spotsIn, statusOf, data_of};
+ghost use Rattle.driver.specs.Take.{used_idx, outstanding, freed, released, countable, judged, used_word, taken, own_after, spots_in, status_of, data_of};
 
 use crate::{Byte, Driver, Taken, room};
 
 // idx of the used ring, by one load.
 pub fn used_idx(d: Driver, mem: &[u8]) -> usize
-    ensures { result ≡ usedIdx d mem.now }
+    ensures { result ≡ used_idx d mem.now }
 {
     let q = d.queue;
     if room::queue_in(q, mem.len()) {
@@ -78,7 +78,7 @@ fn countable(d: Driver, m: usize, own: usize, idx: usize) -> bool
 // Half of the next used entry: its id (0) or its length (4).
 fn used_word(d: Driver, mem: &[u8], half: usize) -> usize
     requires { half ≤ 4 }
-    ensures { result ≡ usedWord d mem.now half }
+    ensures { result ≡ used_word d mem.now half }
 {
     let q = d.queue;
     if room::queue_in(q, mem.len()) {
@@ -111,7 +111,7 @@ fn free_one(own: &mut [usize], i: usize, v: usize)
 // The next answer, if idx (of `used_idx`) says that there is one. Its descriptors come back.
 pub fn take(d: Driver, own: &mut [usize], mem: &[u8], idx: usize) -> Taken
     ensures value { result ≡ taken d own.old mem.now idx }
-    ensures own_after { own.new ≡ ownAfter d.queue.size own.old result }
+    ensures own_after { own.new ≡ own_after d.queue.size own.old result }
 {
     let id = used_word(d, mem, 0);
     let len = used_word(d, mem, 4);
@@ -128,7 +128,7 @@ pub fn take(d: Driver, own: &mut [usize], mem: &[u8], idx: usize) -> Taken
 
 // A request's spots: e buffers, the first `reads` readable; the writable ones lie in m bytes, and the last is not empty.
 fn spots_in(m: usize, spots: &[usize], reads: usize, e: usize) -> bool
-    ensures { result ≡ spotsIn m spots.now reads e }
+    ensures { result ≡ spots_in m spots.now reads e }
 {
     if e < 1 {
         return false;
@@ -153,7 +153,7 @@ fn wide(x: u8) -> usize
 
 // The status byte of an answered request.
 pub fn status(mem: &[u8], spots: &[usize], reads: usize, e: usize) -> Byte
-    ensures { result ≡ statusOf mem.now spots.now reads e }
+    ensures { result ≡ status_of mem.now spots.now reads e }
 {
     if spots_in(mem.len(), spots, reads, e) {
         let last = e - 1;
@@ -166,7 +166,7 @@ pub fn status(mem: &[u8], spots: &[usize], reads: usize, e: usize) -> Byte
 // The bytes of the buffers from first up to end, as one string, as many as `out` holds.
 fn collect(mem: &[u8], spots: &[usize], first: usize, end: usize, out: &mut [u8])
     requires end_in_bounds { 2 * end ≤ length spots.now }
-    requires spots_value { allInside (length mem.now) (spans (end - first) first spots.now) ≡ true }
+    requires spots_value { all_inside (length mem.now) (spans (end - first) first spots.now) ≡ true }
     ensures { out.new ≡ put out.old 0 (take (length out.old) (gather mem.now (spans (end - first) first spots.now))) }
 {
     let mut i = first;
@@ -181,7 +181,7 @@ fn collect(mem: &[u8], spots: &[usize], first: usize, end: usize, out: &mut [u8]
 
 // The data of an answered request, as much as `out` holds; false, and nothing written, where the spots aren't a request's.
 pub fn read(mem: &[u8], spots: &[usize], reads: usize, e: usize, out: &mut [u8]) -> bool
-    ensures value { result ≡ spotsIn (length mem.now) spots.now reads e }
+    ensures value { result ≡ spots_in (length mem.now) spots.now reads e }
     ensures out_after { out.new ≡ data_of mem.now spots.now reads e out.old }
 {
     if spots_in(mem.len(), spots, reads, e) {

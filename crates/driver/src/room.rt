@@ -1,15 +1,15 @@
 // Is the memory the queue's, and is there room for what the caller wants?
 ghost use Rattle.std.specs.Prelude.{◌≡◌, true, [], ◌∷◌, ◌+◌, ◌*◌, ◌≤◌, ◌<◌, length};
-ghost use Rattle.model.specs.Ring.{sizeMax};
+ghost use Rattle.model.specs.Ring.{size_max};
 ghost use Rattle.model.specs.Bytes.{put};
 ghost use Rattle.model.specs.Memory.{regions, sound};
-ghost use Rattle.driver.specs.Lay.{queueIn, ready, countsOk, spot_of, in_memory, settled, areaWords};
+ghost use Rattle.driver.specs.Lay.{queue_in, ready, counts_ok, spot_of, in_memory, settled, area_words};
 
 use model::{Found, Queue};
 
 // The three areas lie in a memory of m bytes.
 pub fn queue_in(q: Queue, m: usize) -> bool
-    ensures { result ≡ queueIn q m }
+    ensures { result ≡ queue_in q m }
 {
     if ring::size_ok(q.size) {
         let n = q.size;
@@ -39,8 +39,8 @@ pub fn ready(q: Queue, map: &[usize], m: usize, own: usize) -> bool
 
 // Whole buffers, at most q, and private memory for them.
 pub fn counts_ok(q: usize, words: usize, reads: usize, spots: usize, nums: usize) -> bool
-    requires { q ≤ sizeMax }
-    ensures { result ≡ countsOk q words reads spots nums }
+    requires { q ≤ size_max }
+    ensures { result ≡ counts_ok q words reads spots nums }
 {
     let e = words / 2;
     if words % 2 != 0 {
@@ -91,10 +91,10 @@ pub fn settle(map: &[usize], m: usize, bufs: &[usize], e: usize, spots: &mut [us
 
 // The areas' spots, behind those of e buffers.
 pub fn note_areas(q: Queue, e: usize, spots: &mut [usize])
-    requires size_le_size_max { q.size ≤ sizeMax }
-    requires e_le_size_max { e ≤ sizeMax }
+    requires size_le_size_max { q.size ≤ size_max }
+    requires e_le_size_max { e ≤ size_max }
     requires e_in_bounds { 2 * e + 6 ≤ length spots.old }
-    ensures { spots.new ≡ put spots.old (2 * e) (areaWords q) }
+    ensures { spots.new ≡ put spots.old (2 * e) (area_words q) }
 {
     let n = q.size;
     chain::hold(spots, e, q.desc, 16 * n);

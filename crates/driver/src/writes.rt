@@ -3,7 +3,7 @@ ghost use Rattle.std.specs.Prelude.{◌≡◌, true, ◌+◌, ◌*◌, ◌/◌, 
 ghost use Rattle.model.specs.Bytes.{put, part};
 ghost use Rattle.model.specs.Memory.{regions};
 ghost use Rattle.model.specs.Step.{apply};
-ghost use Rattle.driver.specs.Lay.{header, descriptor, flags_of, next_of, links, marked, layStores};
+ghost use Rattle.driver.specs.Lay.{header, descriptor, flags_of, next_of, links, marked, lay_stores};
 ghost use Rattle.driver.specs.Fit.{Numbers, WriteFit};
 
 use model::Queue;
@@ -104,7 +104,7 @@ pub fn write(
     nums: &[usize],
 )
     requires { WriteFit q (length mem.old) (length bufs.now / 2) reads spots.now nums.now }
-    ensures { mem.new ≡ apply (layStores q next message.now reads (length bufs.now / 2) bufs.now spots.now nums.now) mem.old }
+    ensures { mem.new ≡ apply (lay_stores q next message.now reads (length bufs.now / 2) bufs.now spots.now nums.now) mem.old }
 {
     let e = bufs.len() / 2;
     answer::spread(message, 0, message.len(), spots, 0, reads, mem);

@@ -11,19 +11,19 @@ use borrow.Author.Tests.{ne_eqb, eq-eqb, le-ltb, ltb-false, leb-true, eqb-true, 
 use Rattle.model.specs.Pick.{pick, both}
 use Rattle.model.specs.Bytes.{put, word}
 use Rattle.model.specs.Ring.{polled, headed, pending, areas}
-use Rattle.model.specs.Chain.{descAt, tested, tally, complete, described}
-use Rattle.model.specs.Request.{verdict, decided, diskCode}
-use Rattle.model.specs.Step.{Cfg, left, lacks, ends, onward, gathered, paid, next, effect, code_of, codeAfter, counted, fetched, measured, step, stepWith}
-use Rattle.words.specs.Layout.{stateWords, rowAt, phaseOf, configAt, mapWords, saved, level, levelWord, takenWord, answeredWord, descsWord}
+use Rattle.model.specs.Chain.{desc_at, tested, tally, complete, described}
+use Rattle.model.specs.Request.{verdict, decided, disk_code}
+use Rattle.model.specs.Step.{Cfg, left, lacks, ends, onward, gathered, paid, next, effect, code_of, code_after, counted, fetched, measured, step, step_with}
+use Rattle.words.specs.Layout.{state_words, row_at, phase_of, config_at, map_words, saved, level, level_word, taken_word, answered_word, descs_word}
 use Rattle.words.proofs.Saved.{phase-saved, length-saved}
-use Rattle.device.specs.Turn.{cfgOf, state_of}
-use Rattle.hostiledisk.specs.Calls.{Set, Called, stepped, steppedOn, Going, memorySet, hdMemory, hdDisk, diskSet, queueSet, enabledWith, hdEnableAt, hdReset}
+use Rattle.device.specs.Turn.{cfg_of, state_of}
+use Rattle.hostiledisk.specs.Calls.{Set, Called, stepped, stepped_on, Going, memory_set, hd_memory, hd_disk, disk_set, queue_set, enabled_with, hd_enable_at, hd_reset}
 use Rattle.model.proofs.Tests.{on, both_r}
 use Rattle.model.proofs.Chain.{tally-same}
-use Rattle.model.specs.Memory.{regions, memoryCode}
+use Rattle.model.specs.Memory.{regions, memory_code}
 use Rattle.model.specs.declared.Areas.{Areas}
 use Rattle.model.specs.declared.Areas.TheVariants.{Refused, Placed}
-use Rattle.guarantees.specs.Accounts.{held, atHand, Fate, answered, dropped, head_of, takes, gives, taken, fates, takenIn, fatesIn}
+use Rattle.guarantees.specs.Accounts.{held, at_hand, Fate, answered, dropped, head_of, takes, gives, taken, fates, taken_in, fates_in}
 use Rattle.guarantees.specs.History.{Call, memory, disk, enable, reset, step as stepOver, World, ran, left as leaves, run, BytesNow, Bytes}
 use Rattle.guarantees.specs.Good.{Made}
 use Rattle.guarantees.proofs.Step.{by_answer}
@@ -88,7 +88,7 @@ pub conserve : (c : Cfg) (t : ℕ) (chain stage : List ℕ) (p : Phase) (f : Lis
 unfolding next takes gives held
 conserve c t chain stage Poll f = sym (keep-poll c.queue.size t (word 2 0 f))
 conserve c t chain stage Entry f = refl
-conserve c t chain stage (Chain k cur) f = sym (keep-chain k cur (descAt 0 f) (tested c.map c.queue.size k (descAt 0 f)))
+conserve c t chain stage (Chain k cur) f = sym (keep-chain k cur (desc_at 0 f) (tested c.map c.queue.size k (desc_at 0 f)))
 conserve c t chain stage (Header k p got) f =
     sym (keep-gathered c.disk k p got (left chain p).len (lacks got (left chain p).len) (word 4 0 (put stage got f)) (word 8 8 (put stage got f)))
 conserve c t chain stage (Payload k p s got) f = sym (keep-paid k p s got (left chain p).len)
@@ -130,64 +130,64 @@ pick-nil false = refl
 -- a step answers 2 exactly if it gives a head
 gives-two : (chain stage f : List ℕ) (p q : Phase) → pick (eqb (code_of (effect chain stage p f) q) 2) (map answered (gives p)) [] ≡ map answered (gives p)
 unfolding gives effect code_of
-gives-two chain stage f Poll q = pick-nil (eqb (codeAfter q) 2)
-gives-two chain stage f Entry q = pick-nil (eqb (codeAfter q) 2)
-gives-two chain stage f (Chain k cur) q = pick-nil (eqb (codeAfter q) 2)
-gives-two chain stage f (Header k p got) q = pick-nil (eqb (codeAfter q) 2)
+gives-two chain stage f Poll q = pick-nil (eqb (code_after q) 2)
+gives-two chain stage f Entry q = pick-nil (eqb (code_after q) 2)
+gives-two chain stage f (Chain k cur) q = pick-nil (eqb (code_after q) 2)
+gives-two chain stage f (Header k p got) q = pick-nil (eqb (code_after q) 2)
 gives-two chain stage f (Payload k p s got) q = pick-nil (eqb (code_of (effect chain stage (Payload k p s got) f) q) 2)
-gives-two chain stage f (Answer k job got) q = pick-nil (eqb (codeAfter q) 2)
+gives-two chain stage f (Answer k job got) q = pick-nil (eqb (code_after q) 2)
 gives-two chain stage f (Publish k got) q = refl
-gives-two chain stage f (Broken reason head count at) q = pick-nil (eqb (codeAfter q) 2)
+gives-two chain stage f (Broken reason head count at) q = pick-nil (eqb (code_after q) 2)
 
-at-hand-on : (w : World) → stateWords ≤ length w.state → level w.state ≡ 3 → atHand w ≡ held (phaseOf (rowAt w.state))
-unfolding atHand
-at-hand-on w l h = rw (le-ltb (length w.state) stateWords l, eq-eqb (level w.state) 3 h)
+at-hand-on : (w : World) → state_words ≤ length w.state → level w.state ≡ 3 → at_hand w ≡ held (phase_of (row_at w.state))
+unfolding at_hand
+at-hand-on w l h = rw (le-ltb (length w.state) state_words l, eq-eqb (level w.state) 3 h)
 
 account-stepped : (w : World) (mem : List ℕ) → ((i : ℕ) → get_or mem i 0 < 256)
-    → Going w.state (phaseOf (rowAt w.state)) (length mem) (length w.backing) w.chain (length w.stage) → Made w.state w.chain
-    → atHand w ++ takes (phaseOf (rowAt w.state)) (phaseOf (rowAt (steppedOn w.state mem w.backing w.chain w.stage).state))
-    ≡ map head_of (pick (eqb (steppedOn w.state mem w.backing w.chain w.stage).code 2) (map answered (gives (phaseOf (rowAt w.state)))) [])
-    ++ atHand (leaves (steppedOn w.state mem w.backing w.chain w.stage))
-unfolding steppedOn stepped step stepWith
+    → Going w.state (phase_of (row_at w.state)) (length mem) (length w.backing) w.chain (length w.stage) → Made w.state w.chain
+    → at_hand w ++ takes (phase_of (row_at w.state)) (phase_of (row_at (stepped_on w.state mem w.backing w.chain w.stage).state))
+    ≡ map head_of (pick (eqb (stepped_on w.state mem w.backing w.chain w.stage).code 2) (map answered (gives (phase_of (row_at w.state)))) [])
+    ++ at_hand (leaves (stepped_on w.state mem w.backing w.chain w.stage))
+unfolding stepped_on stepped step step_with
 account-stepped w mem b g m =
     let s = w.state in
-    let p = phaseOf (rowAt s) in
-    let c = cfgOf (configAt s) (mapWords s) in
-    let f = fetched c (state_of (get_or s takenWord 0) (get_or s answeredWord 0) (get_or s descsWord 0) p) w.chain mem in
-    let q = next c (get_or s takenWord 0) w.chain w.stage p f in
+    let p = phase_of (row_at s) in
+    let c = cfg_of (config_at s) (map_words s) in
+    let f = fetched c (state_of (get_or s taken_word 0) (get_or s answered_word 0) (get_or s descs_word 0) p) w.chain mem in
+    let q = next c (get_or s taken_word 0) w.chain w.stage p f in
     let e = effect w.chain w.stage p f in
-    let t = counted e (get_or s takenWord 0) in
-    let a = counted e (get_or s answeredWord 0) in
-    let n = measured c (get_or s descsWord 0) p f in
-    let o = leaves (steppedOn s mem w.backing w.chain w.stage) in
-    let x : phaseOf (rowAt (saved s t a n q)) ≡ q = phase-saved s t a n q g.words_long in
-    let y : atHand o ≡ held q =
+    let t = counted e (get_or s taken_word 0) in
+    let a = counted e (get_or s answered_word 0) in
+    let n = measured c (get_or s descs_word 0) p f in
+    let o = leaves (stepped_on s mem w.backing w.chain w.stage) in
+    let x : phase_of (row_at (saved s t a n q)) ≡ q = phase-saved s t a n q g.words_long in
+    let y : at_hand o ≡ held q =
     at-hand-on o (rw (length-saved s t a n q) g.words_long) (stays s mem w.backing w.chain w.stage b g m) ∙ ap held x in
-    rw (at-hand-on w g.words_long g.enabled, x, gives-two w.chain w.stage f p q, heads-answered (gives p), y) (conserve c (get_or s takenWord 0) w.chain w.stage p f)
+    rw (at-hand-on w g.words_long g.enabled, x, gives-two w.chain w.stage f p q, heads-answered (gives p), y) (conserve c (get_or s taken_word 0) w.chain w.stage p f)
 
 -- one step, on the words
 account-step : (w : World) (mem : List ℕ) → ((i : ℕ) → get_or mem i 0 < 256) → Kept w
-    → atHand w ++ taken w (stepOver mem) ≡ map head_of (fates w (stepOver mem)) ++ atHand (leaves (ran w (stepOver mem)))
+    → at_hand w ++ taken w (stepOver mem) ≡ map head_of (fates w (stepOver mem)) ++ at_hand (leaves (ran w (stepOver mem)))
 unfolding taken fates ran
 account-step w mem b k =
     let s = w.state in
-    let p = phaseOf (rowAt s) in
-    by_answer (λ (o : Called). atHand w ++ takes p (phaseOf (rowAt o.state)) ≡ map head_of (pick (eqb o.code 2) (map answered (gives p)) []) ++ atHand (leaves o))
+    let p = phase_of (row_at s) in
+    by_answer (λ (o : Called). at_hand w ++ takes p (phase_of (row_at o.state)) ≡ map head_of (pick (eqb o.code 2) (map answered (gives p)) []) ++ at_hand (leaves o))
     s mem w.backing w.chain w.stage
-    (λ n h. rw (takes_same p, ne_eqb n 2 (λ z. omega arith)) (append-nil (atHand w)))
+    (λ n h. rw (takes_same p, ne_eqb n 2 (λ z. omega arith)) (append-nil (at_hand w)))
     (λ g. account-stepped w mem b g (k g.words_long g.enabled))
 
 -- nothing is at hand where no queue is enabled, or it only polls
-at-hand-off : (w : World) → (stateWords ≤ length w.state → level w.state ≡ 3 → held (phaseOf (rowAt w.state)) ≡ []) → atHand w ≡ []
-unfolding atHand
+at-hand-off : (w : World) → (state_words ≤ length w.state → level w.state ≡ 3 → held (phase_of (row_at w.state)) ≡ []) → at_hand w ≡ []
+unfolding at_hand
 at-hand-off w f =
-    on (λ (l : List ℕ). l ≡ []) (ltb (length w.state) stateWords) (λ e. refl)
-    (λ e. on (λ (l : List ℕ). l ≡ []) (eqb (level w.state) 3) (λ h. f (ltb-false (length w.state) stateWords e) (eqb-true (level w.state) 3 h)) (λ h. refl))
+    on (λ (l : List ℕ). l ≡ []) (ltb (length w.state) state_words) (λ e. refl)
+    (λ e. on (λ (l : List ℕ). l ≡ []) (eqb (level w.state) 3) (λ h. f (ltb-false (length w.state) state_words e) (eqb-true (level w.state) 3 h)) (λ h. refl))
 
-at-hand-tag : (w : World) (n : ℕ) → get_or w.state levelWord 0 ≡ n → (n ≡ 3 → ⊥) → atHand w ≡ []
+at-hand-tag : (w : World) (n : ℕ) → get_or w.state level_word 0 ≡ n → (n ≡ 3 → ⊥) → at_hand w ≡ []
 at-hand-tag w n e f = at-hand-off w (λ l h. absurd (f (sym e ∙ level-tag w.state h)))
 
-at-hand-level : (w : World) (n : ℕ) → level w.state ≡ n → (n ≡ 3 → ⊥) → atHand w ≡ []
+at-hand-level : (w : World) (n : ℕ) → level w.state ≡ n → (n ≡ 3 → ⊥) → at_hand w ≡ []
 at-hand-level w n e f = at-hand-off w (λ l h. absurd (f (sym e ∙ h)))
 
 abbrev with-state : World → List ℕ → World
@@ -197,72 +197,72 @@ held-poll : held Poll ≡ []
 unfolding held
 held-poll = refl
 
-at-hand-short : (w : World) → ltb (length w.state) stateWords ≡ true → atHand w ≡ []
-unfolding atHand
+at-hand-short : (w : World) → ltb (length w.state) state_words ≡ true → at_hand w ≡ []
+unfolding at_hand
 at-hand-short w e = rw e
 
-account-memory : (w : World) (ws : List ℕ) (m : ℕ) → atHand w ++ taken w (memory ws m) ≡ map head_of (fates w (memory ws m)) ++ atHand (leaves (ran w (memory ws m)))
-unfolding taken fates ran hdMemory
+account-memory : (w : World) (ws : List ℕ) (m : ℕ) → at_hand w ++ taken w (memory ws m) ≡ map head_of (fates w (memory ws m)) ++ at_hand (leaves (ran w (memory ws m)))
+unfolding taken fates ran hd_memory
 account-memory w ws m =
-    let P : Set → Type 0 = λ x. atHand w ++ [] ≡ map head_of (pick (eqb x.code 0) (map dropped (atHand w)) []) ++ atHand (with-state w x.state) in
-    on P (ltb (length w.state) stateWords) (λ e. append-nil (atHand w))
-    (λ e. on P (eqb (memoryCode m ws) 0)
+    let P : Set → Type 0 = λ x. at_hand w ++ [] ≡ map head_of (pick (eqb x.code 0) (map dropped (at_hand w)) []) ++ at_hand (with-state w x.state) in
+    on P (ltb (length w.state) state_words) (λ e. append-nil (at_hand w))
+    (λ e. on P (eqb (memory_code m ws) 0)
     (λ f. rw (
-      heads-dropped (atHand w),
-      at-hand-tag (with-state w (memorySet w.state ws m)) 1 (memory-tag w.state ws m (ltb-false (length w.state) stateWords e)) (λ z. omega arith),
+      heads-dropped (at_hand w),
+      at-hand-tag (with-state w (memory_set w.state ws m)) 1 (memory-tag w.state ws m (ltb-false (length w.state) state_words e)) (λ z. omega arith),
     ))
-    (λ f. rw f (append-nil (atHand w))))
+    (λ f. rw f (append-nil (at_hand w))))
 
 account-disk : (w : World) (start sectors ro : ℕ) (id : List ℕ) (b : ℕ)
-    → atHand w ++ taken w (disk start sectors ro id b) ≡ map head_of (fates w (disk start sectors ro id b)) ++ atHand (leaves (ran w (disk start sectors ro id b)))
-unfolding taken fates ran hdDisk
+    → at_hand w ++ taken w (disk start sectors ro id b) ≡ map head_of (fates w (disk start sectors ro id b)) ++ at_hand (leaves (ran w (disk start sectors ro id b)))
+unfolding taken fates ran hd_disk
 account-disk w start sectors ro id b =
-    let P : Set → Type 0 = λ x. atHand w ++ [] ≡ atHand (with-state w x.state) in
-    on P (ltb (length w.state) stateWords) (λ e. append-nil (atHand w))
+    let P : Set → Type 0 = λ x. at_hand w ++ [] ≡ at_hand (with-state w x.state) in
+    on P (ltb (length w.state) state_words) (λ e. append-nil (at_hand w))
     (λ e. on P (both (leb 1 (level w.state)) (leb (level w.state) 2))
     (λ f. on P (eqb (length id) 20)
-    (λ g. on P (eqb (diskCode start sectors b) 0)
+    (λ g. on P (eqb (disk_code start sectors b) 0)
     (λ h. rw (
       at-hand-level w (level w.state) refl (λ z. omega (arith, leb-true (level w.state) 2 (both_r (leb 1 (level w.state)) (leb (level w.state) 2) f))),
-      at-hand-tag (with-state w (diskSet w.state start sectors ro id b)) 2 (disk-tag w.state start sectors ro id b (omega (arith, ltb-false (length w.state) stateWords e))) (λ z. omega arith),
+      at-hand-tag (with-state w (disk_set w.state start sectors ro id b)) 2 (disk-tag w.state start sectors ro id b (omega (arith, ltb-false (length w.state) state_words e))) (λ z. omega arith),
     ))
-    (λ h. append-nil (atHand w)))
-    (λ g. append-nil (atHand w)))
-    (λ f. append-nil (atHand w)))
+    (λ h. append-nil (at_hand w)))
+    (λ g. append-nil (at_hand w)))
+    (λ f. append-nil (at_hand w)))
 
-account-enabled : (w : World) (c g start : ℕ) (x : Areas) → stateWords ≤ length w.state → level w.state ≡ 2 → atHand w ++ [] ≡ atHand (with-state w (enabledWith w.state c g start x).state)
-unfolding enabledWith
-account-enabled w c g start (Refused n) l e = append-nil (atHand w)
+account-enabled : (w : World) (c g start : ℕ) (x : Areas) → state_words ≤ length w.state → level w.state ≡ 2 → at_hand w ++ [] ≡ at_hand (with-state w (enabled_with w.state c g start x).state)
+unfolding enabled_with
+account-enabled w c g start (Refused n) l e = append-nil (at_hand w)
 account-enabled w c g start (Placed q) l e =
-    let P : Set → Type 0 = λ x. atHand w ++ [] ≡ atHand (with-state w x.state) in
-    on P (ltb c (2 * q.size)) (λ f. append-nil (atHand w))
-    (λ f. on P (ltb g 1048576) (λ f. append-nil (atHand w))
-    (λ f. on P (leb 65536 start) (λ f. append-nil (atHand w))
+    let P : Set → Type 0 = λ x. at_hand w ++ [] ≡ at_hand (with-state w x.state) in
+    on P (ltb c (2 * q.size)) (λ f. append-nil (at_hand w))
+    (λ f. on P (ltb g 1048576) (λ f. append-nil (at_hand w))
+    (λ f. on P (leb 65536 start) (λ f. append-nil (at_hand w))
     (λ f. rw (
       at-hand-level w 2 e (λ z. omega arith),
-      at-hand-off (with-state w (queueSet w.state q c g start)) (λ u v. ap held (queue-phase w.state q c g start l) ∙ held-poll),
+      at-hand-off (with-state w (queue_set w.state q c g start)) (λ u v. ap held (queue-phase w.state q c g start l) ∙ held-poll),
     ))))
 
 account-enable : (w : World) (size desc avail used c g start : ℕ)
-    → atHand w ++ taken w (enable size desc avail used c g start) ≡ map head_of (fates w (enable size desc avail used c g start)) ++ atHand (leaves (ran w (enable size desc avail used c g start)))
-unfolding taken fates ran hdEnableAt
+    → at_hand w ++ taken w (enable size desc avail used c g start) ≡ map head_of (fates w (enable size desc avail used c g start)) ++ at_hand (leaves (ran w (enable size desc avail used c g start)))
+unfolding taken fates ran hd_enable_at
 account-enable w size desc avail used c g start =
-    let P : Set → Type 0 = λ x. atHand w ++ [] ≡ atHand (with-state w x.state) in
-    on P (ltb (length w.state) stateWords) (λ e. append-nil (atHand w))
+    let P : Set → Type 0 = λ x. at_hand w ++ [] ≡ at_hand (with-state w x.state) in
+    on P (ltb (length w.state) state_words) (λ e. append-nil (at_hand w))
     (λ e. on P (eqb (level w.state) 2)
-    (λ f. account-enabled w c g start (areas (regions (mapWords w.state)) size desc avail used) (ltb-false (length w.state) stateWords e) (eqb-true (level w.state) 2 f))
-    (λ f. append-nil (atHand w)))
+    (λ f. account-enabled w c g start (areas (regions (map_words w.state)) size desc avail used) (ltb-false (length w.state) state_words e) (eqb-true (level w.state) 2 f))
+    (λ f. append-nil (at_hand w)))
 
-account-reset : (w : World) → atHand w ++ taken w reset ≡ map head_of (fates w reset) ++ atHand (leaves (ran w reset))
-unfolding taken fates ran hdReset
+account-reset : (w : World) → at_hand w ++ taken w reset ≡ map head_of (fates w reset) ++ at_hand (leaves (ran w reset))
+unfolding taken fates ran hd_reset
 account-reset w =
-    let P : List ℕ → Type 0 = λ s. atHand w ++ [] ≡ map head_of (map dropped (atHand w)) ++ atHand (with-state w s) in
-    on (λ (x : Set). P x.state) (ltb (length w.state) stateWords) (λ e. rw (at-hand-short w e))
+    let P : List ℕ → Type 0 = λ s. at_hand w ++ [] ≡ map head_of (map dropped (at_hand w)) ++ at_hand (with-state w s) in
+    on (λ (x : Set). P x.state) (ltb (length w.state) state_words) (λ e. rw (at-hand-short w e))
     (λ e. on P (eqb (level w.state) 3)
-    (λ f. rw (heads-dropped (atHand w), at-hand-tag (with-state w (set w.state 0 2)) 2 (get_or-set_same w.state 0 2 0 (omega (arith, ltb-false (length w.state) stateWords e))) (λ z. omega arith)))
+    (λ f. rw (heads-dropped (at_hand w), at-hand-tag (with-state w (set w.state 0 2)) 2 (get_or-set_same w.state 0 2 0 (omega (arith, ltb-false (length w.state) state_words e))) (λ z. omega arith)))
     (λ f. rw (at-hand-level w (level w.state) refl (eqb-false (level w.state) 3 f))))
 
-account-call : (w : World) (c : Call) → BytesNow c → Kept w → atHand w ++ taken w c ≡ map head_of (fates w c) ++ atHand (leaves (ran w c))
+account-call : (w : World) (c : Call) → BytesNow c → Kept w → at_hand w ++ taken w c ≡ map head_of (fates w c) ++ at_hand (leaves (ran w c))
 unfolding BytesNow
 account-call w (memory words m) b k = account-memory w words m
 account-call w (disk start sectors ro id backing) b k = account-disk w start sectors ro id backing
@@ -274,11 +274,11 @@ compose : (h₀ t₁ a₁ h₁ t₂ a₂ h₂ : List ℕ) → h₀ ++ t₁ ≡ a
 compose h₀ t₁ a₁ h₁ t₂ a₂ h₂ p q = cc (append_assoc h₀ t₁ t₂, append_assoc a₁ h₁ t₂, append_assoc a₁ a₂ h₂, p, q)
 
 -- 11. Over every history: what was at hand and what is taken, in order, is what is answered or dropped, in order, and what is at hand then.
-pub accounts : (w : World) (cs : List Call) → Bytes cs → Kept w → atHand w ++ takenIn w cs ≡ map head_of (fatesIn w cs) ++ atHand (run w cs)
-unfolding takenIn fatesIn run Bytes
-accounts w [] b k = append-nil (atHand w)
+pub accounts : (w : World) (cs : List Call) → Bytes cs → Kept w → at_hand w ++ taken_in w cs ≡ map head_of (fates_in w cs) ++ at_hand (run w cs)
+unfolding taken_in fates_in run Bytes
+accounts w [] b k = append-nil (at_hand w)
 accounts w (c ∷ cs) b k =
     let v = leaves (ran w c) in
-    rw (heads-append (fates w c) (fatesIn v cs))
-    (compose (atHand w) (taken w c) (map head_of (fates w c)) (atHand v) (takenIn v cs) (map head_of (fatesIn v cs)) (atHand (run v cs))
+    rw (heads-append (fates w c) (fates_in v cs))
+    (compose (at_hand w) (taken w c) (map head_of (fates w c)) (at_hand v) (taken_in v cs) (map head_of (fates_in v cs)) (at_hand (run v cs))
     (account-call w c b.0 k) (accounts v cs b.1 (kept-call w c b.0 k)))

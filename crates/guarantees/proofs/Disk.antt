@@ -8,7 +8,7 @@ use lib.Dec.{leb, ltb, eqb}
 use lib.ListN.{get_or, length}
 use Rattle.model.specs.Pick.{pick}
 use Rattle.model.specs.Bytes.{put, part}
-use Rattle.model.specs.Step.{Effect, nothing, stores, answers, publishes, Store, apply, shifted, diskStores, effect, diskOf, fetched, step, stepWith}
+use Rattle.model.specs.Step.{Effect, nothing, stores, answers, publishes, Store, apply, shifted, disk_stores, effect, disk_of, fetched, step, step_with}
 use Rattle.model.specs.Sane.{ready}
 use Rattle.model.proofs.Lists.{Disjoint, first, after, part-put, part-put-in, part-put-other, length-put, part-part}
 use Rattle.model.proofs.Step.{apply-append}
@@ -16,10 +16,10 @@ use Rattle.model.proofs.Tests.{on}
 use borrow.Author.Tests.{ltb-false, eqb-true}
 use Rattle.guarantees.proofs.Open.{locked}
 use Rattle.guarantees.proofs.Reached.{Kept}
-use Rattle.words.specs.Layout.{stateWords, rowAt, phaseOf, configAt, mapWords, level, memLenWord, startWord, sectorsWord, roWord}
-use Rattle.device.specs.Turn.{cfgOf, state_of}
-use Rattle.hostiledisk.specs.Calls.{Called, stepped, steppedOn, Going, hdStep, isBroken, longEnough}
-use Rattle.guarantees.specs.History.{Call, memory, disk, enable, reset, step as stepOver, World, ran, left as leaves, run, wanted, written, writtenIn, DiskNow, DiskIs}
+use Rattle.words.specs.Layout.{state_words, row_at, phase_of, config_at, map_words, level, mem_len_word, start_word, sectors_word, ro_word}
+use Rattle.device.specs.Turn.{cfg_of, state_of}
+use Rattle.hostiledisk.specs.Calls.{Called, stepped, stepped_on, Going, hd_step, is_broken, long_enough}
+use Rattle.guarantees.specs.History.{Call, memory, disk, enable, reset, step as stepOver, World, ran, left as leaves, run, wanted, written, written_in, DiskNow, DiskIs}
 use Rattle.model.specs.declared.Disk.{Disk}
 use Rattle.model.specs.declared.Walk.{Walk}
 use Rattle.model.specs.declared.Place.{Place}
@@ -27,8 +27,8 @@ use Rattle.model.specs.declared.Phase.{Phase}
 use Rattle.model.specs.declared.Phase.TheVariants.{Poll, Entry, Chain, Header, Payload, Answer, Publish, Broken}
 
 -- a step's effect on the backing slice is its effect on this disk
-pub disk-effect : (e : Effect) (d n : ℕ) (b : List ℕ) → part d n (shifted d (diskStores e) b) ≡ apply (diskStores e) (part d n b)
-unfolding diskStores shifted apply
+pub disk-effect : (e : Effect) (d n : ℕ) (b : List ℕ) → part d n (shifted d (disk_stores e) b) ≡ apply (disk_stores e) (part d n b)
+unfolding disk_stores shifted apply
 disk-effect nothing d n b = refl
 disk-effect (stores at bs) d n b = part-put-in b d n at bs
 disk-effect (answers k job) d n b = refl
@@ -47,16 +47,16 @@ unfolding apply
 nothing-wrote d n b = refl
 
 stepped-wrote : (w : World) (mem : List ℕ)
-    → part (get_or w.state startWord 0) (512 * get_or w.state sectorsWord 0) (steppedOn w.state mem w.backing w.chain w.stage).backing
-    ≡ apply (diskStores (effect w.chain w.stage (phaseOf (rowAt w.state)) (part (wanted w.state w.chain).at (wanted w.state w.chain).len mem)))
-    (part (get_or w.state startWord 0) (512 * get_or w.state sectorsWord 0) w.backing)
-unfolding steppedOn stepped step stepWith configAt
+    → part (get_or w.state start_word 0) (512 * get_or w.state sectors_word 0) (stepped_on w.state mem w.backing w.chain w.stage).backing
+    ≡ apply (disk_stores (effect w.chain w.stage (phase_of (row_at w.state)) (part (wanted w.state w.chain).at (wanted w.state w.chain).len mem)))
+    (part (get_or w.state start_word 0) (512 * get_or w.state sectors_word 0) w.backing)
+unfolding stepped_on stepped step step_with config_at
 stepped-wrote w mem =
-    disk-effect (effect w.chain w.stage (phaseOf (rowAt w.state)) (part (wanted w.state w.chain).at (wanted w.state w.chain).len mem))
-    (get_or w.state startWord 0) (512 * get_or w.state sectorsWord 0) w.backing
+    disk-effect (effect w.chain w.stage (phase_of (row_at w.state)) (part (wanted w.state w.chain).at (wanted w.state w.chain).len mem))
+    (get_or w.state start_word 0) (512 * get_or w.state sectors_word 0) w.backing
 
 wrote-call : (d n : ℕ) (w : World) (c : Call) → DiskNow d n w c → part d n (ran w c).backing ≡ apply (written w c) (part d n w.backing)
-unfolding ran written DiskNow hdStep
+unfolding ran written DiskNow hd_step
 wrote-call d n w (memory words m) k = nothing-wrote d n w.backing
 wrote-call d n w (disk start sectors ro id backing) k = nothing-wrote d n w.backing
 wrote-call d n w (enable size desc avail used chain stage start) k = nothing-wrote d n w.backing
@@ -65,24 +65,24 @@ wrote-call d n w (stepOver mem) k =
     let s = w.state in
     let b = w.backing in
     let u = nothing-wrote d n b in
-    let x : part d n (steppedOn s mem b w.chain w.stage).backing
-    ≡ apply (diskStores (effect w.chain w.stage (phaseOf (rowAt s)) (part (wanted s w.chain).at (wanted s w.chain).len mem))) (part d n b) =
+    let x : part d n (stepped_on s mem b w.chain w.stage).backing
+    ≡ apply (disk_stores (effect w.chain w.stage (phase_of (row_at s)) (part (wanted s w.chain).at (wanted s w.chain).len mem))) (part d n b) =
     rw (← k.0, ← k.1) (stepped-wrote w mem) in
-    wrote-pick d n b (ltb (length s) stateWords) _ _ _ _ u
+    wrote-pick d n b (ltb (length s) state_words) _ _ _ _ u
     (wrote-pick d n b (eqb (level s) 3) _ _ _ _
-    (wrote-pick d n b (isBroken (phaseOf (rowAt s))) _ _ _ _ u
-    (wrote-pick d n b (longEnough s (length mem) (length b) (length w.chain) (length w.stage)) _ _ _ _
-    (wrote-pick d n b (ready (get_or s memLenWord 0) w.chain (phaseOf (rowAt s))) _ _ _ _ x u) u))
+    (wrote-pick d n b (is_broken (phase_of (row_at s))) _ _ _ _ u
+    (wrote-pick d n b (long_enough s (length mem) (length b) (length w.chain) (length w.stage)) _ _ _ _
+    (wrote-pick d n b (ready (get_or s mem_len_word 0) w.chain (phase_of (row_at s))) _ _ _ _ x u) u))
     u)
 
 -- over every history: the disk is what the accepted writes make of it, in the order of the calls that carried them out
-pub disk-run : (d n : ℕ) (w : World) (cs : List Call) → DiskIs d n w cs → part d n (run w cs).backing ≡ apply (writtenIn w cs) (part d n w.backing)
-unfolding run writtenIn DiskIs
+pub disk-run : (d n : ℕ) (w : World) (cs : List Call) → DiskIs d n w cs → part d n (run w cs).backing ≡ apply (written_in w cs) (part d n w.backing)
+unfolding run written_in DiskIs
 disk-run d n w [] k = nothing-wrote d n w.backing
 disk-run d n w (c ∷ cs) k =
     let v = leaves (ran w c) in
     disk-run d n v cs k.1
-    ∙ (ap (λ (x : List ℕ). apply (writtenIn v cs) x) (wrote-call d n w c k.0) ∙ sym (apply-append (written w c) (writtenIn v cs) (part d n w.backing)))
+    ∙ (ap (λ (x : List ℕ). apply (written_in v cs) x) (wrote-call d n w c k.0) ∙ sym (apply-append (written w c) (written_in v cs) (part d n w.backing)))
 
 -- a range that later writes spare holds what it held
 unfoldable pub Spare : ℕ → ℕ → List Store → Type 0
@@ -103,7 +103,7 @@ read_back at a k bs xs m h l s =
     ∙ (sym (part-part at a (length bs) k (put m at bs) l) ∙ ap (part a k) (part-put m at (length bs) bs refl h))
 
 -- on a read_only disk that set-up and steps made, no call writes to the disk
-pub read_only : (w : World) (c : Call) → Kept w → (get_or w.state roWord 0 ≡ 0 → ⊥) → written w c ≡ []
+pub read_only : (w : World) (c : Call) → Kept w → (get_or w.state ro_word 0 ≡ 0 → ⊥) → written w c ≡ []
 unfolding written
 read_only w (memory words m) k n = refl
 read_only w (disk start sectors ro id backing) k n = refl
@@ -111,13 +111,13 @@ read_only w (enable size desc avail used chain stage start) k n = refl
 read_only w reset k n = refl
 read_only w (stepOver mem) k n =
     let P : List Store → Type 0 = λ xs. xs ≡ [] in
-    on P (ltb (length w.state) stateWords) (λ a. refl)
+    on P (ltb (length w.state) state_words) (λ a. refl)
     (λ a. on P (eqb (level w.state) 3)
-    (λ b. on P (isBroken (phaseOf (rowAt w.state))) (λ c. refl)
-    (λ c. on P (longEnough w.state (length mem) (length w.backing) (length w.chain) (length w.stage))
-    (λ d. on P (ready (get_or w.state memLenWord 0) w.chain (phaseOf (rowAt w.state)))
-    (λ e. locked (get_or w.state roWord 0) w.chain w.stage (part (wanted w.state w.chain).at (wanted w.state w.chain).len mem) (phaseOf (rowAt w.state)) n
-    (k (ltb-false (length w.state) stateWords a) (eqb-true (level w.state) 3 b)).open-disk)
+    (λ b. on P (is_broken (phase_of (row_at w.state))) (λ c. refl)
+    (λ c. on P (long_enough w.state (length mem) (length w.backing) (length w.chain) (length w.stage))
+    (λ d. on P (ready (get_or w.state mem_len_word 0) w.chain (phase_of (row_at w.state)))
+    (λ e. locked (get_or w.state ro_word 0) w.chain w.stage (part (wanted w.state w.chain).at (wanted w.state w.chain).len mem) (phase_of (row_at w.state)) n
+    (k (ltb-false (length w.state) state_words a) (eqb-true (level w.state) 3 b)).open-disk)
     (λ e. refl))
     (λ d. refl)))
     (λ b. refl))

@@ -10,15 +10,15 @@ use lib.ListN.{get_or, length}
 use borrow.Author.Tests.{le-ltb, le-leb, eq-eqb}
 use Rattle.model.specs.Pick.{pick, both}
 use Rattle.model.specs.Bytes.{put, part}
-use Rattle.model.specs.Chain.{descAt, tested, held, keeps}
-use Rattle.model.specs.Step.{Cfg, State, Out, step, stepWith, fetched, next, chained, measured, staged, effect, counted, ends, left, shifted, diskStores, code_of, codeAfter, memStores, apply, want, nowhere}
+use Rattle.model.specs.Chain.{desc_at, tested, held, keeps}
+use Rattle.model.specs.Step.{Cfg, State, Out, step, step_with, fetched, next, chained, measured, staged, effect, counted, ends, left, shifted, disk_stores, code_of, code_after, mem_stores, apply, want, nowhere}
 use Rattle.model.proofs.Tests.{on}
 use Rattle.model.proofs.Lists.{below, length-put}
-use Rattle.words.specs.Layout.{stateWords, rowAt, phaseOf, configAt, mapWords, saved, level, memLenWord, startWord, sectorsWord, roWord, backingLenWord, id0Word, id1Word, id2Word, sizeWord, descAreaWord, availAreaWord, usedAreaWord, chainLenWord, stageLenWord, takenWord}
+use Rattle.words.specs.Layout.{state_words, row_at, phase_of, config_at, map_words, saved, level, mem_len_word, start_word, sectors_word, ro_word, backing_len_word, id0_word, id1_word, id2_word, size_word, desc_area_word, avail_area_word, used_area_word, chain_len_word, stage_len_word, taken_word}
 use Rattle.words.proofs.Saved.{phase-saved, taken-saved, answered-saved, descs-saved, others-saved, length-saved}
-use Rattle.device.specs.Turn.{cfgOf, state_of}
+use Rattle.device.specs.Turn.{cfg_of, state_of}
 use Rattle.device.specs.declared.Config.{Config}
-use Rattle.hostiledisk.specs.Calls.{Called, told, seenOf, shown, shownMore, statusWords, hdStatus, hdStep, untouched, isBroken, longEnough, stepped, steppedOn, Going}
+use Rattle.hostiledisk.specs.Calls.{Called, told, seen_of, shown, shown_more, status_words, hd_status, hd_step, untouched, is_broken, long_enough, stepped, stepped_on, Going}
 use Rattle.guarantees.specs.History.{Call, step as stepOver, World, ran, left as leaves, run, steps}
 use Rattle.guarantees.specs.Good.{Made}
 use Rattle.guarantees.specs.Follow.{Matches, model, found}
@@ -45,7 +45,7 @@ length-chained : (c : Cfg) (chain : List ℕ) (p : Phase) (f : List ℕ) → len
 unfolding chained
 length-chained c chain Poll f = refl
 length-chained c chain Entry f = refl
-length-chained c chain (Chain k cur) f = length-keeps chain k (descAt 0 f) (tested c.map c.queue.size k (descAt 0 f))
+length-chained c chain (Chain k cur) f = length-keeps chain k (desc_at 0 f) (tested c.map c.queue.size k (desc_at 0 f))
 length-chained c chain (Header k p got) f = refl
 length-chained c chain (Payload k p s got) f = refl
 length-chained c chain (Answer k job got) f = refl
@@ -64,36 +64,36 @@ length-staged chain stage (Answer k job got) f = refl
 length-staged chain stage (Publish k got) f = refl
 length-staged chain stage (Broken reason head count at) f = refl
 
-config-saved : (s : List ℕ) (t a n : ℕ) (p : Phase) → configAt (saved s t a n p) ≡ configAt s
-unfolding configAt
+config-saved : (s : List ℕ) (t a n : ℕ) (p : Phase) → config_at (saved s t a n p) ≡ config_at s
+unfolding config_at
 config-saved s t a n p =
-    let w : (i : ℕ) → i < takenWord → get_or (saved s t a n p) i 0 ≡ get_or s i 0 = λ i u. others-saved s t a n p i (below u) in
+    let w : (i : ℕ) → i < taken_word → get_or (saved s t a n p) i 0 ≡ get_or s i 0 = λ i u. others-saved s t a n p i (below u) in
     rw (
-      w sizeWord (omega arith),
-      w descAreaWord (omega arith),
-      w availAreaWord (omega arith),
-      w usedAreaWord (omega arith),
-      w startWord (omega arith),
-      w sectorsWord (omega arith),
-      w roWord (omega arith),
-      w id0Word (omega arith),
-      w id1Word (omega arith),
-      w id2Word (omega arith),
-      w memLenWord (omega arith),
+      w size_word (omega arith),
+      w desc_area_word (omega arith),
+      w avail_area_word (omega arith),
+      w used_area_word (omega arith),
+      w start_word (omega arith),
+      w sectors_word (omega arith),
+      w ro_word (omega arith),
+      w id0_word (omega arith),
+      w id1_word (omega arith),
+      w id2_word (omega arith),
+      w mem_len_word (omega arith),
     )
 
-long-saved : (s : List ℕ) (t a n : ℕ) (p : Phase) (m b c g : ℕ) → longEnough (saved s t a n p) m b c g ≡ longEnough s m b c g
-unfolding longEnough
+long-saved : (s : List ℕ) (t a n : ℕ) (p : Phase) (m b c g : ℕ) → long_enough (saved s t a n p) m b c g ≡ long_enough s m b c g
+unfolding long_enough
 long-saved s t a n p m b c g =
-    let w : (i : ℕ) → i < takenWord → get_or (saved s t a n p) i 0 ≡ get_or s i 0 = λ i u. others-saved s t a n p i (below u) in
-    rw (w memLenWord (omega arith), w backingLenWord (omega arith), w chainLenWord (omega arith), w stageLenWord (omega arith))
+    let w : (i : ℕ) → i < taken_word → get_or (saved s t a n p) i 0 ≡ get_or s i 0 = λ i u. others-saved s t a n p i (below u) in
+    rw (w mem_len_word (omega arith), w backing_len_word (omega arith), w chain_len_word (omega arith), w stage_len_word (omega arith))
 
 -- a queue that set-up and steps made, and that is not broken, makes the step
-goes_on : (w : World) (mem : List ℕ) → stateWords ≤ length w.state → level w.state ≡ 3 → Made w.state w.chain
-    → longEnough w.state (length mem) (length w.backing) (length w.chain) (length w.stage) ≡ true → isBroken (phaseOf (rowAt w.state)) ≡ false
-    → hdStep w.state mem w.backing w.chain w.stage ≡ steppedOn w.state mem w.backing w.chain w.stage
-unfolding hdStep
-goes_on w mem l h m g b = rw (le-ltb (length w.state) stateWords l, eq-eqb (level w.state) 3 h, b, g, made-ready w.state w.chain h m)
+goes_on : (w : World) (mem : List ℕ) → state_words ≤ length w.state → level w.state ≡ 3 → Made w.state w.chain
+    → long_enough w.state (length mem) (length w.backing) (length w.chain) (length w.stage) ≡ true → is_broken (phase_of (row_at w.state)) ≡ false
+    → hd_step w.state mem w.backing w.chain w.stage ≡ stepped_on w.state mem w.backing w.chain w.stage
+unfolding hd_step
+goes_on w mem l h m g b = rw (le-ltb (length w.state) state_words l, eq-eqb (level w.state) 3 h, b, g, made-ready w.state w.chain h m)
 
 -- one call beside one step of the model
 pub record Beside (c : Cfg) (n : ℕ) (x : Called) (o : Out) : Type 0 where
@@ -102,21 +102,21 @@ pub record Beside (c : Cfg) (n : ℕ) (x : Called) (o : Out) : Type 0 where
   pub after : Matches c n (leaves x) o.state o.backing o.chain o.stage
 
 stepped-model : (c : Cfg) (n : ℕ) (w : World) (s : State) (mem backing chain stage : List ℕ) → Matches c n w s backing chain stage
-    → steppedOn w.state mem w.backing w.chain w.stage ≡ stepped w.state (step c s mem backing chain stage)
-unfolding steppedOn
+    → stepped_on w.state mem w.backing w.chain w.stage ≡ stepped w.state (step c s mem backing chain stage)
+unfolding stepped_on
 stepped-model c n w s mem backing chain stage m =
     rw (m.cfg-is, m.taken_is, m.answered-is, m.descs-is, m.phase-is, m.backing-is, m.chain-is, m.stage_is)
 
 lengths : (c : Cfg) (s : State) (mem backing chain stage : List ℕ)
     → (length (step c s mem backing chain stage).backing ≡ length backing) × (length (step c s mem backing chain stage).chain ≡ length chain)
     × (length (step c s mem backing chain stage).stage ≡ length stage)
-unfolding step stepWith
+unfolding step step_with
 lengths c s mem backing chain stage =
     let f = fetched c s chain mem in
     (stores-length (effect chain stage s.phase f) c.disk.start backing, length-chained c chain s.phase f, length-staged chain stage s.phase f)
 
 matches-stepped : (c : Cfg) (n : ℕ) (w : World) (s : State) (mem backing chain stage : List ℕ) → ((i : ℕ) → get_or mem i 0 < 256) → length mem ≡ n
-    → Matches c n w s backing chain stage → isBroken (phaseOf (rowAt w.state)) ≡ false
+    → Matches c n w s backing chain stage → is_broken (phase_of (row_at w.state)) ≡ false
     → Beside c n (stepped w.state (step c s mem backing chain stage)) (step c s mem backing chain stage)
 unfolding stepped
 matches-stepped c n w s mem backing chain stage b l m nb =
@@ -126,8 +126,8 @@ matches-stepped c n w s mem backing chain stage b l m nb =
     let d = o.state.descs in
     let p = o.state.phase in
     let z = lengths c s mem backing chain stage in
-    let e : steppedOn w.state mem w.backing w.chain w.stage ≡ stepped w.state o = stepped-model c n w s mem backing chain stage m in
-    let g : Going w.state (phaseOf (rowAt w.state)) (length mem) (length w.backing) w.chain (length w.stage) =
+    let e : stepped_on w.state mem w.backing w.chain w.stage ≡ stepped w.state o = stepped-model c n w s mem backing chain stage m in
+    let g : Going w.state (phase_of (row_at w.state)) (length mem) (length w.backing) w.chain (length w.stage) =
     record {
       words_long = m.words_long;
       enabled = m.enabled;
@@ -160,15 +160,15 @@ matches-stepped c n w s mem backing chain stage b l m nb =
 broken-model : (c : Cfg) (t a n : ℕ) (reason head count at : ℕ) (mem backing chain stage : List ℕ)
     → step c (state_of t a n (Broken reason head count at)) mem backing chain stage
     ≡ record { state = state_of t a n (Broken reason head count at); mem = mem; backing = backing; chain = chain; stage = stage; code = 3 }
-unfolding step stepWith effect next chained measured staged memStores diskStores shifted apply counted code_of codeAfter
+unfolding step step_with effect next chained measured staged mem_stores disk_stores shifted apply counted code_of code_after
 broken-model c t a n reason head count at mem backing chain stage = refl
 
 module _ (c : Cfg) (n : ℕ) (w : World) (t a d : ℕ) (mem backing chain stage : List ℕ) (b : (i : ℕ) → get_or mem i 0 < 256) (l : length mem ≡ n) where
-  goes-beside : (p : Phase) → Matches c n w (state_of t a d p) backing chain stage → isBroken p ≡ false
+  goes-beside : (p : Phase) → Matches c n w (state_of t a d p) backing chain stage → is_broken p ≡ false
       → Beside c n (ran w (stepOver mem)) (step c (state_of t a d p) mem backing chain stage)
   unfolding ran
   goes-beside p m nb =
-      let q : isBroken (phaseOf (rowAt w.state)) ≡ false = rw m.phase-is nb in
+      let q : is_broken (phase_of (row_at w.state)) ≡ false = rw m.phase-is nb in
       rw (goes_on w mem m.words_long m.enabled m.made (rw l m.slices-long) q, stepped-model c n w (state_of t a d p) mem backing chain stage m)
       (matches-stepped c n w (state_of t a d p) mem backing chain stage b l m q)
 
@@ -183,7 +183,7 @@ module _ (c : Cfg) (n : ℕ) (w : World) (t a d : ℕ) (mem backing chain stage 
       (record { code_is = refl; mem_is = refl; after = m })
 
   pub beside : (p : Phase) → Matches c n w (state_of t a d p) backing chain stage → Beside c n (ran w (stepOver mem)) (step c (state_of t a d p) mem backing chain stage)
-  unfolding isBroken
+  unfolding is_broken
   beside Poll m = goes-beside Poll m refl
   beside Entry m = goes-beside Entry m refl
   beside (Chain k cur) m = goes-beside (Chain k cur) m refl
@@ -221,11 +221,11 @@ calls-serve c g i k n w o h m = rw (after-model c g i k o) (follows-model c n w 
 
 -- 13. hd_status shows the model's state, all ten words of it where there is room for them
 pub status-shows : (c : Cfg) (n : ℕ) (w : World) (s : State) (backing chain stage : List ℕ) → Matches c n w s backing chain stage → (out : List ℕ) → 10 ≤ length out
-    → hdStatus w.state out ≡ told 0 (put out 0 (shown 1 s.taken s.answered (seenOf s.phase) ++ shownMore s.descs (seenOf s.phase)))
-unfolding hdStatus statusWords
+    → hd_status w.state out ≡ told 0 (put out 0 (shown 1 s.taken s.answered (seen_of s.phase) ++ shown_more s.descs (seen_of s.phase)))
+unfolding hd_status status_words
 status-shows c n w s backing chain stage m out l =
     rw (
-      le-ltb (length w.state) stateWords m.words_long,
+      le-ltb (length w.state) state_words m.words_long,
       le-ltb (length out) 8 (omega arith),
       le-leb 10 (length out) l,
       eq-eqb (level w.state) 3 m.enabled,
@@ -238,6 +238,6 @@ status-shows c n w s backing chain stage m out l =
 -- .. of a broken queue: why, the head, how many descriptors were fetched, at which of them, and what the last complete chain had
 pub broken-shows : (c : Cfg) (n : ℕ) (w : World) (t a descs reason head count at : ℕ) (backing chain stage : List ℕ)
     → Matches c n w (state_of t a descs (Broken reason head count at)) backing chain stage → (out : List ℕ) → 10 ≤ length out
-    → hdStatus w.state out ≡ told 0 (put out 0 (1 ∷ reason ∷ t ∷ a ∷ 0 ∷ head ∷ count ∷ 0 ∷ at ∷ descs ∷ []))
-unfolding shown seenOf
+    → hd_status w.state out ≡ told 0 (put out 0 (1 ∷ reason ∷ t ∷ a ∷ 0 ∷ head ∷ count ∷ 0 ∷ at ∷ descs ∷ []))
+unfolding shown seen_of
 broken-shows c n w t a descs reason head count at backing chain stage m out l = status-shows c n w (state_of t a descs (Broken reason head count at)) backing chain stage m out l

@@ -12,10 +12,10 @@ use Rattle.model.specs.Pick.{pick, both}
 use Rattle.model.specs.Bytes.{put, part, word}
 use Rattle.model.specs.Memory.{Region, sound, locate}
 use Rattle.model.specs.Ring.{polled, headed, pending, fresh}
-use Rattle.model.specs.Chain.{descAt, testedBy, tested, tally, held, complete, described, keeps}
-use Rattle.model.specs.Request.{fits, inOk, outOk, exactly, verdict, decided}
+use Rattle.model.specs.Chain.{desc_at, tested_by, tested, tally, held, complete, described, keeps}
+use Rattle.model.specs.Request.{fits, in_ok, out_ok, exactly, verdict, decided}
 use Rattle.model.specs.Step.{Span, left, lacks, ends, onward, gathered, paid, spans, writables}
-use Rattle.model.specs.Sane.{walkOk, fullOk, jobOk, sane, inside, allInside, placeOk, ready}
+use Rattle.model.specs.Sane.{walk_ok, full_ok, job_ok, sane, inside, all_inside, place_is_ok, ready}
 use Rattle.model.proofs.Tests.{told, on, both_l, both_r, both-split}
 use Rattle.model.proofs.Memory.{InOne, Within, here, later, in-slice, locate-in}
 use Rattle.model.proofs.Sane.{inside-turn, inside-end}
@@ -71,8 +71,8 @@ before-between rs chain i (suc d) f =
     rw e (omega (arith, before-between rs chain i d (λ j h. f j (omega arith)), (f (i + d) (omega arith)).short))
 
 module _ (rs : List Region) (q : ℕ) (chain : List ℕ) (k : Walk) where
-  good-walk : WalkGood rs q chain k → walkOk q k ≡ true
-  unfolding walkOk
+  good-walk : WalkGood rs q chain k → walk_ok q k ≡ true
+  unfolding walk_ok
   good-walk g =
       let a = before-short rs chain k.reads (λ i h. g.buffers i (omega (arith, g.reads_in))) in
       let e : k.reads + (k.count - k.reads) ≡ k.count = omega (arith, g.reads_in) in
@@ -91,35 +91,35 @@ module _ (rs : List Region) (q : ℕ) (chain : List ℕ) (k : Walk) where
       let l = before-le chain (k.reads + 1) k.count (omega arith) in
       omega (arith, n, l, spot-some rs (get_or chain (2 * k.reads) 0) (get_or chain (2 * k.reads + 1) 0) (g.buffers k.reads h), g.r-is, g.w-is)
 
-  good-full : WalkGood rs q chain k → k.reads < k.count → fullOk q k ≡ true
-  unfolding fullOk
+  good-full : WalkGood rs q chain k → k.reads < k.count → full_ok q k ≡ true
+  unfolding full_ok
   good-full g h =
-      both_true (walkOk q k) _ (good-walk g)
+      both_true (walk_ok q k) _ (good-walk g)
       (both_true (ltb k.reads k.count) _ (lt-ltb k.reads k.count h) (le-leb 1 k.w (good-some g h)))
 
 pub good-sane : (rs : List Region) (q sectors : ℕ) (chain : List ℕ) (p : Phase) → Good rs q sectors chain p → sane q sectors p ≡ true
 unfolding Good sane
 good-sane rs q sectors chain Poll g = refl
 good-sane rs q sectors chain Entry g = refl
-good-sane rs q sectors chain (Chain k cur) g = both_true (walkOk q k) _ (good-walk rs q chain k g.0) (lt-ltb cur q g.1)
+good-sane rs q sectors chain (Chain k cur) g = both_true (walk_ok q k) _ (good-walk rs q chain k g.0) (lt-ltb cur q g.1)
 good-sane rs q sectors chain (Header k p got) g =
-    both_true (fullOk q k) _ (good-full rs q chain k g.0 g.1)
+    both_true (full_ok q k) _ (good-full rs q chain k g.0 g.1)
     (both_true (ltb p.buf k.reads) _ (lt-ltb p.buf k.reads g.4.buf-in)
     (both_true (ltb got 16) _ (lt-ltb got 16 g.2) (le-leb 16 k.r g.3)))
 good-sane rs q sectors chain (Payload k p s got) g =
-    both_true (fullOk q k) _ (good-full rs q chain k g.0 g.1)
+    both_true (full_ok q k) _ (good-full rs q chain k g.0 g.1)
     (both_true (ltb p.buf k.reads) _ (lt-ltb p.buf k.reads g.5.buf-in)
     (both_true (ltb 16 k.r) _ (lt-ltb 16 k.r g.2) (both_true (ltb got (k.r - 16)) _ (lt-ltb got (k.r - 16) g.3) g.4)))
 good-sane rs q sectors chain (Answer k job got) g =
-    both_true (fullOk q k) _ (good-full rs q chain k g.0 g.1) (both_true (leb got k.r) _ (le-leb got k.r g.2) g.3)
-good-sane rs q sectors chain (Publish k got) g = both_true (fullOk q k) _ (good-full rs q chain k g.0 g.1) (le-leb got k.r g.2)
+    both_true (full_ok q k) _ (good-full rs q chain k g.0 g.1) (both_true (leb got k.r) _ (le-leb got k.r g.2) g.3)
+good-sane rs q sectors chain (Publish k got) g = both_true (full_ok q k) _ (good-full rs q chain k g.0 g.1) (le-leb got k.r g.2)
 good-sane rs q sectors chain (Broken reason head count at) g =
     both_true (leb 1 reason) _ (le-leb 1 reason g.0)
     (both_true (leb reason 8) _ (le-leb reason 8 g.1) (both_true (ltb head q) _ (lt-ltb head q g.2) (both_true (leb count (q + 1)) _ (le-leb count (q + 1) g.3) g.4)))
 
 -- buffers that each lie in a region lie in the slice
 all-inside : (m : ℕ) (rs : List Region) (chain : List ℕ) → sound m rs ≡ true → (d i e : ℕ) → i + d ≡ e
-    → ((j : ℕ) → j < e → Spot rs (get_or chain (2 * j) 0) (get_or chain (2 * j + 1) 0)) → allInside m (spans (e - i) i chain) ≡ true
+    → ((j : ℕ) → j < e → Spot rs (get_or chain (2 * j) 0) (get_or chain (2 * j + 1) 0)) → all_inside m (spans (e - i) i chain) ≡ true
 unfolding inside
 all-inside m rs chain h zero i e x f = inside-end m i e chain (omega arith)
 all-inside m rs chain h (suc d) i e x f =
@@ -130,8 +130,8 @@ all-inside m rs chain h (suc d) i e x f =
     (all-inside m rs chain h d (i + 1) e (omega arith) f)
 
 good-place : (m : ℕ) (rs : List Region) (q : ℕ) (chain : List ℕ) (k : Walk) (p : Place) (n : ℕ) → sound m rs ≡ true → WalkGood rs q chain k → Next chain k p n
-    → placeOk m chain p ≡ true
-unfolding placeOk inside
+    → place_is_ok m chain p ≡ true
+unfolding place_is_ok inside
 good-place m rs q chain k p n h g x =
     both_true (ltb p.skip (get_or chain (2 * p.buf + 1) 0)) _ (lt-ltb p.skip (get_or chain (2 * p.buf + 1) 0) x.skip-in)
     (le-leb (get_or chain (2 * p.buf) 0 + get_or chain (2 * p.buf + 1) 0) m
@@ -150,10 +150,10 @@ good-ready m rs q sectors chain Entry h g = refl
 good-ready m rs q sectors chain (Chain k cur) h g = refl
 good-ready m rs q sectors chain (Header k p got) h g = good-place m rs q chain k p got h g.0 g.4
 good-ready m rs q sectors chain (Payload k p s got) h g =
-    both_true (placeOk m chain p) _ (good-place m rs q chain k p (16 + got) h g.0 g.5)
+    both_true (place_is_ok m chain p) _ (good-place m rs q chain k p (16 + got) h g.0 g.5)
     (le-leb (got + (left chain p).len) (k.r - 16) (omega (arith, next-left rs q chain k p (16 + got) g.0 g.5)))
 good-ready m rs q sectors chain (Answer k job got) h g =
-    both_true (allInside m (writables chain k)) _ (all-inside m rs chain h (k.count - k.reads) k.reads k.count (omega (arith, g.1)) g.0.buffers)
+    both_true (all_inside m (writables chain k)) _ (all-inside m rs chain h (k.count - k.reads) k.reads k.count (omega (arith, g.1)) g.0.buffers)
     (le-leb 1 (get_or chain (2 * (k.count - 1) + 1) 0)
     (spot-some rs (get_or chain (2 * (k.count - 1)) 0) (get_or chain (2 * (k.count - 1) + 1) 0) (g.0.buffers (k.count - 1) (omega (arith, g.1)))))
 good-ready m rs q sectors chain (Publish k got) h g = refl

@@ -10,7 +10,7 @@ use borrow.Author.Tests.{leb-false, ltb-false, le-ltb, lt-ltb, eq-eqb}
 use Rattle.model.specs.Memory.{Region, regions}
 use Rattle.model.specs.Ring.{areas}
 use Rattle.model.specs.Chain.{tested, held, keeps}
-use Rattle.model.specs.Step.{Cfg, chained, step, stepWith}
+use Rattle.model.specs.Step.{Cfg, chained, step, step_with}
 use Rattle.model.proofs.Tests.{on}
 use Rattle.model.proofs.Lists.{Apart, above, put-apart}
 use Rattle.model.proofs.Chain.{next-room, last-room}
@@ -24,16 +24,16 @@ use Rattle.model.specs.declared.Areas.{Areas}
 use Rattle.model.specs.declared.Areas.TheVariants.{Refused, Placed}
 use Rattle.model.specs.declared.Phase.{Phase}
 use Rattle.model.specs.declared.Phase.TheVariants.{Poll, Entry, Chain, Header, Payload, Answer, Publish, Broken}
-use Rattle.device.specs.Turn.{cfgOf}
-use Rattle.words.specs.Layout.{stateWords, sizeWord, takenWord, savedWords, rowAt, phaseOf, level, configAt, mapWords}
+use Rattle.device.specs.Turn.{cfg_of}
+use Rattle.words.specs.Layout.{state_words, size_word, taken_word, saved_words, row_at, phase_of, level, config_at, map_words}
 use Rattle.words.proofs.Saved.{others-saved}
-use Rattle.hostiledisk.specs.Calls.{Set, told, Called, enabledWith, hdEnableAt, stepped, steppedOn, hdStep}
+use Rattle.hostiledisk.specs.Calls.{Set, told, Called, enabled_with, hd_enable_at, stepped, stepped_on, hd_step}
 use Rattle.guarantees.proofs.Step.{by-step}
 use Rattle.guarantees.proofs.Enables.{refused-code}
 
 -- a step changes the counters, the phase and the last chain's number, whatever the words are and whatever the queue's size is; set-up's words stay, the map's too
-pub state-held : (s mem backing chain stage : List ℕ) (i : ℕ) → Apart i takenWord savedWords → get_or (hdStep s mem backing chain stage).state i 0 ≡ get_or s i 0
-unfolding steppedOn stepped
+pub state-held : (s mem backing chain stage : List ℕ) (i : ℕ) → Apart i taken_word saved_words → get_or (hd_step s mem backing chain stage).state i 0 ≡ get_or s i 0
+unfolding stepped_on stepped
 state-held s mem backing chain stage i h =
     by-step (λ (o : Called). get_or o.state i 0 ≡ get_or s i 0) s mem backing chain stage (λ n. refl) (λ g. others-saved s _ _ _ _ i h)
 
@@ -59,33 +59,33 @@ chained-low c chain (Publish k got) f i h = refl
 chained-low c chain (Broken reason head count at) f i h = refl
 
 -- of chain memory a step changes nothing behind the 2 q words that this queue asks for
-pub chain_held : (s mem backing chain stage : List ℕ) (i : ℕ) → 2 * get_or s sizeWord 0 ≤ i → get_or (hdStep s mem backing chain stage).chain i 0 ≡ get_or chain i 0
-unfolding steppedOn stepped step stepWith configAt
+pub chain_held : (s mem backing chain stage : List ℕ) (i : ℕ) → 2 * get_or s size_word 0 ≤ i → get_or (hd_step s mem backing chain stage).chain i 0 ≡ get_or chain i 0
+unfolding stepped_on stepped step step_with config_at
 chain_held s mem backing chain stage i h =
     by-step (λ (o : Called). get_or o.chain i 0 ≡ get_or chain i 0) s mem backing chain stage (λ n. refl)
-    (λ g. chained-low (cfgOf (configAt s) (mapWords s)) chain (phaseOf (rowAt s)) _ i h)
+    (λ g. chained-low (cfg_of (config_at s) (map_words s)) chain (phase_of (row_at s)) _ i h)
 
 -- enabling that is answered 0 was told of two words for each descriptor ..
 enabled-lent : (s : List ℕ) (c g start : ℕ) (rs : List Region) (size desc avail used : ℕ) (x : Areas) → areas rs size desc avail used ≡ x
-    → (enabledWith s c g start x).code ≡ 0 → 2 * size ≤ c
-unfolding enabledWith
+    → (enabled_with s c g start x).code ≡ 0 → 2 * size ≤ c
+unfolding enabled_with
 enabled-lent s c g start rs size desc avail used (Refused n) e = λ z. absurd (refused-code rs size desc avail used n e z)
 enabled-lent s c g start rs size desc avail used (Placed q) e =
     let P : Set → Type 0 = λ x. x.code ≡ 0 → 2 * size ≤ c in
     on P (ltb c (2 * q.size)) (λ f z. absurd (omega arith)) (λ f z. omega (arith, ltb-false c (2 * q.size) f, areas-size rs size desc avail used q e))
 
-pub enable-lent : (s : List ℕ) (size desc avail used c g start : ℕ) → (hdEnableAt s size desc avail used c g start).code ≡ 0 → 2 * size ≤ c
-unfolding hdEnableAt
+pub enable-lent : (s : List ℕ) (size desc avail used c g start : ℕ) → (hd_enable_at s size desc avail used c g start).code ≡ 0 → 2 * size ≤ c
+unfolding hd_enable_at
 enable-lent s size desc avail used c g start =
     let P : Set → Type 0 = λ x. x.code ≡ 0 → 2 * size ≤ c in
-    on P (ltb (length s) stateWords) (λ e z. absurd (omega arith))
+    on P (ltb (length s) state_words) (λ e z. absurd (omega arith))
     (λ e. on P (eqb (level s) 2)
-    (λ f. enabled-lent s c g start (regions (mapWords s)) size desc avail used (areas (regions (mapWords s)) size desc avail used) refl)
+    (λ f. enabled-lent s c g start (regions (map_words s)) size desc avail used (areas (regions (map_words s)) size desc avail used) refl)
     (λ f z. absurd (omega arith)))
 
 -- .. and with less it answers 42 and changes nothing, where the areas are in order
-pub enable-short : (s : List ℕ) (size desc avail used c g start : ℕ) (q : Queue) → stateWords ≤ length s → level s ≡ 2
-    → areas (regions (mapWords s)) size desc avail used ≡ Placed q → c < 2 * size → hdEnableAt s size desc avail used c g start ≡ told 42 s
-unfolding hdEnableAt enabledWith
+pub enable-short : (s : List ℕ) (size desc avail used c g start : ℕ) (q : Queue) → state_words ≤ length s → level s ≡ 2
+    → areas (regions (map_words s)) size desc avail used ≡ Placed q → c < 2 * size → hd_enable_at s size desc avail used c g start ≡ told 42 s
+unfolding hd_enable_at enabled_with
 enable-short s size desc avail used c g start q l h e f =
-    rw (le-ltb (length s) stateWords l, eq-eqb (level s) 2 h, e, lt-ltb c (2 * q.size) (omega (arith, areas-size (regions (mapWords s)) size desc avail used q e)))
+    rw (le-ltb (length s) state_words l, eq-eqb (level s) 2 h, e, lt-ltb c (2 * q.size) (omega (arith, areas-size (regions (map_words s)) size desc avail used q e)))

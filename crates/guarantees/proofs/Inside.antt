@@ -7,11 +7,11 @@ use native.Mathlib.Omega.{arith}
 use native.Mathlib.Nat.{mod-lt}
 use lib.ListN.{get_or, length}
 use Rattle.model.specs.Memory.{Region, regions}
-use Rattle.model.specs.Step.{Cfg, Span, want, left, lacks, spans, writables, buffer, usedAt}
+use Rattle.model.specs.Step.{Cfg, Span, want, left, lacks, spans, writables, buffer, used_at}
 use Rattle.model.proofs.Memory.{InOne, Within, here, later}
 use Rattle.model.proofs.Step.{spans-turn, spans-end}
-use Rattle.words.specs.Layout.{rowAt, phaseOf, configAt, mapWords, level, sectorsWord, takenWord, answeredWord}
-use Rattle.device.specs.Turn.{cfgOf}
+use Rattle.words.specs.Layout.{row_at, phase_of, config_at, map_words, level, sectors_word, taken_word, answered_word}
+use Rattle.device.specs.Turn.{cfg_of}
 use Rattle.hostiledisk.proofs.Laws.{level-three}
 use Rattle.guarantees.specs.History.{wanted, touched}
 use Rattle.guarantees.specs.Good.{Spot, WalkGood, Next, Good, Area, Made}
@@ -62,10 +62,10 @@ one-range rs c t chain sectors (Publish k got) d a h g = none refl
 one-range rs c t chain sectors (Broken reason head count at) d a h g = none refl
 
 -- 2. the wanted range
-pub wanted-region : (s chain : List ℕ) → level s ≡ 3 → Made s chain → OneRange (regions (mapWords s)) (wanted s chain)
-unfolding configAt
+pub wanted-region : (s chain : List ℕ) → level s ≡ 3 → Made s chain → OneRange (regions (map_words s)) (wanted s chain)
+unfolding config_at
 wanted-region s chain h m =
-    one-range (regions (mapWords s)) (cfgOf (configAt s) (mapWords s)) (get_or s takenWord 0) chain (get_or s sectorsWord 0) (phaseOf (rowAt s)) m.desc-area m.avail-area
+    one-range (regions (map_words s)) (cfg_of (config_at s) (map_words s)) (get_or s taken_word 0) chain (get_or s sectors_word 0) (phase_of (row_at s)) m.desc-area m.avail-area
     (level-three s h).queue.size-some m.good
 
 unfoldable pub AllIn : List Region → List Span → Type 0
@@ -88,7 +88,7 @@ touched-all rs q a chain sectors (Chain k cur) u h g = tt
 touched-all rs q a chain sectors (Header k p got) u h g = tt
 touched-all rs q a chain sectors (Payload k p s got) u h g = tt
 touched-all rs q a chain sectors (Answer k job got) u h g = (
-  area-sub rs q.used (6 + 8 * q.size) (4 + 8 * (a % q.size)) 8 (usedAt q a) u (omega arith) (omega (arith, mod-lt a h)) refl,
+  area-sub rs q.used (6 + 8 * q.size) (4 + 8 * (a % q.size)) 8 (used_at q a) u (omega arith) (omega (arith, mod-lt a h)) refl,
   buffers-in rs chain (k.count - k.reads) k.reads k.count (omega (arith, g.1)) g.0.buffers,
 )
 touched-all rs q a chain sectors (Publish k got) u h g =
@@ -96,7 +96,7 @@ touched-all rs q a chain sectors (Publish k got) u h g =
 touched-all rs q a chain sectors (Broken reason head count at) u h g = tt
 
 -- 3. the ranges that may be written
-pub touched-regions : (s chain : List ℕ) → level s ≡ 3 → Made s chain → AllIn (regions (mapWords s)) (touched (configAt s).queue (get_or s answeredWord 0) chain (phaseOf (rowAt s)))
-unfolding configAt
+pub touched-regions : (s chain : List ℕ) → level s ≡ 3 → Made s chain → AllIn (regions (map_words s)) (touched (config_at s).queue (get_or s answered_word 0) chain (phase_of (row_at s)))
+unfolding config_at
 touched-regions s chain h m =
-    touched-all (regions (mapWords s)) (configAt s).queue (get_or s answeredWord 0) chain (get_or s sectorsWord 0) (phaseOf (rowAt s)) m.used-area (level-three s h).queue.size-some m.good
+    touched-all (regions (map_words s)) (config_at s).queue (get_or s answered_word 0) chain (get_or s sectors_word 0) (phase_of (row_at s)) m.used-area (level-three s h).queue.size-some m.good

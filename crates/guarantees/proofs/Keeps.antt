@@ -12,11 +12,11 @@ use Rattle.model.specs.Pick.{pick, both}
 use Rattle.model.specs.Bytes.{put, part, word}
 use Rattle.model.specs.Memory.{Region, locate}
 use Rattle.model.specs.Ring.{polled, headed, pending, fresh}
-use Rattle.model.specs.Chain.{descAt, testedBy, tested, tally, held, complete, described, keeps}
-use Rattle.model.specs.Request.{fits, inOk, outOk, exactly, verdict, decided}
+use Rattle.model.specs.Chain.{desc_at, tested_by, tested, tally, held, complete, described, keeps}
+use Rattle.model.specs.Request.{fits, in_ok, out_ok, exactly, verdict, decided}
 use Rattle.model.specs.Step.{Cfg, left, lacks, ends, onward, gathered, paid, next, chained, fetched, want}
 use Rattle.device.specs.Turn.{state_of}
-use Rattle.model.specs.Sane.{jobOk, refusedAt}
+use Rattle.model.specs.Sane.{job_ok, refused_at}
 use Rattle.model.proofs.Tests.{told, on, both_l, both_r, both-split}
 use Rattle.model.proofs.Lists.{put-below, put_in, get_d_part}
 use Rattle.model.proofs.Memory.{locate-in}
@@ -39,13 +39,13 @@ use Rattle.model.specs.declared.Phase.TheVariants.{Poll, Entry, Chain, Header, P
 
 -- S1 and S2
 keeps-poll : (rs : List Region) (q sectors : ℕ) (chain : List ℕ) (taken idx : ℕ) → 1 ≤ q → Good rs q sectors chain (polled q taken idx)
-unfolding polled Good refusedAt
+unfolding polled Good refused_at
 keeps-poll rs q sectors chain taken idx h =
     on (Good rs q sectors chain) (eqb (pending idx taken) 0) (λ e. tt)
     (λ e. on (Good rs q sectors chain) (ltb q (pending idx taken)) (λ f. (omega arith, omega arith, omega arith, omega arith, refl)) (λ f. tt))
 
 keeps_entry : (rs : List Region) (q sectors : ℕ) (chain : List ℕ) (head : ℕ) → 1 ≤ q → Good rs q sectors chain (headed q head)
-unfolding headed Good before refusedAt
+unfolding headed Good before refused_at
 keeps_entry rs q sectors chain head h =
     on (Good rs q sectors chain) (leb q head) (λ e. (omega arith, omega arith, omega arith, omega arith, refl))
     (λ e. let l : head < q = leb-false q head e in
@@ -57,8 +57,8 @@ record Kept (rs : List Region) (q : ℕ) (k : Walk) (d : Desc) (x : ℕ) : Type 
   pub placed : locate rs d.addr d.len ≡ At x
   pub in_order : both (ltb d.flags 2) (ltb k.reads k.count) ≡ false
 
-kept_next : (a s e : Bool) (f : Found) (l n g : Bool) (x : ℕ) → testedBy a s e f l n g ≡ Goes x → (a ≡ false) × (f ≡ At x) × (l ≡ false) × (g ≡ false)
-unfolding testedBy
+kept_next : (a s e : Bool) (f : Found) (l n g : Bool) (x : ℕ) → tested_by a s e f l n g ≡ Goes x → (a ≡ false) × (f ≡ At x) × (l ≡ false) × (g ≡ false)
+unfolding tested_by
 kept_next true s e f l n g x h = let z : ◌≡◌ {A = ℕ} 0 1 = cc in absurd (omega arith)
 kept_next false true e f l n g x h = let z : ◌≡◌ {A = ℕ} 0 1 = cc in absurd (omega arith)
 kept_next false false true f l n g x h = let z : ◌≡◌ {A = ℕ} 0 1 = cc in absurd (omega arith)
@@ -68,8 +68,8 @@ kept_next false false false (At y) false true g x h = let z : ◌≡◌ {A = ℕ
 kept_next false false false (At y) false false true x h = let z : ◌≡◌ {A = ℕ} 0 1 = cc in absurd (omega arith)
 kept_next false false false (At y) false false false x h = (refl, cc, refl, refl)
 
-kept-last : (a s e : Bool) (f : Found) (l n g : Bool) (x : ℕ) → testedBy a s e f l n g ≡ Last x → (a ≡ false) × (f ≡ At x) × (l ≡ false)
-unfolding testedBy
+kept-last : (a s e : Bool) (f : Found) (l n g : Bool) (x : ℕ) → tested_by a s e f l n g ≡ Last x → (a ≡ false) × (f ≡ At x) × (l ≡ false)
+unfolding tested_by
 kept-last true s e f l n g x h = let z : ◌≡◌ {A = ℕ} 0 1 = cc in absurd (omega arith)
 kept-last false true e f l n g x h = let z : ◌≡◌ {A = ℕ} 0 1 = cc in absurd (omega arith)
 kept-last false false true f l n g x h = let z : ◌≡◌ {A = ℕ} 0 1 = cc in absurd (omega arith)
@@ -152,14 +152,14 @@ some_read rs q chain k g v = go k.reads refl
     go (suc n) e = omega arith
 
 -- a refused chain has a descriptor
-some-refused : (q count cur : ℕ) → 1 ≤ count → cur < q → refusedAt q count cur ≡ true
-unfolding refusedAt
+some-refused : (q count cur : ℕ) → 1 ≤ count → cur < q → refused_at q count cur ≡ true
+unfolding refused_at
 some-refused q count cur h l = rw (ne_eqb count 0 (λ z. omega arith)) (lt-ltb cur q l)
 
 -- the chain is complete
 keeps-complete : (rs : List Region) (q sectors : ℕ) (chain : List ℕ) (k : Walk) (cur : ℕ) → WalkGood rs q chain k → 1 ≤ k.count → cur < q
     → Good rs q sectors chain (complete k cur)
-unfolding complete Good before jobOk
+unfolding complete Good before job_ok
 keeps-complete rs q sectors chain k cur g h l =
     on (Good rs q sectors chain) (leb k.count k.reads)
     (λ e. (omega arith, omega arith, g.head_in, omega (arith, g.count-in), some-refused q k.count cur h l))
@@ -197,11 +197,11 @@ keeps-chain : (rs : List Region) (q sectors : ℕ) (chain : List ℕ) (k : Walk)
     → Good rs q sectors (keeps chain k d (tested rs q k d)) (described k cur d (tested rs q k d))
 unfolding tested
 keeps-chain rs q sectors chain k cur d g n s l =
-    go (testedBy (leb q k.count) (ltb 3 d.flags) (eqb d.len 0) (locate rs d.addr d.len)
+    go (tested_by (leb q k.count) (ltb 3 d.flags) (eqb d.len 0) (locate rs d.addr d.len)
     (both (ltb d.flags 2) (ltb k.reads k.count)) (eqb (d.flags % 2) 0) (leb q d.next)) refl
   where
     go : (t : Tested)
-        → testedBy (leb q k.count) (ltb 3 d.flags) (eqb d.len 0) (locate rs d.addr d.len)
+        → tested_by (leb q k.count) (ltb 3 d.flags) (eqb d.len 0) (locate rs d.addr d.len)
         (both (ltb d.flags 2) (ltb k.reads k.count)) (eqb (d.flags % 2) 0) (leb q d.next) ≡ t
         → Good rs q sectors (keeps chain k d t) (described k cur d t)
     go (Bad r) e = keeps-bad rs q sectors chain k cur d r g n (bad-reason _ _ _ _ _ _ _ r e)
@@ -235,7 +235,7 @@ next-onward rs q chain k p a n g x h l =
 -- S4, decided
 keeps-decided : (rs : List Region) (q : ℕ) (d : Disk) (chain : List ℕ) (k : Walk) (p : Place) (type sector : ℕ) → WalkGood rs q chain k → k.reads < k.count → 16 ≤ k.r
     → (16 < k.r → Next chain k p 16) → Good rs q d.sectors chain (decided k p (verdict d type sector k.r k.w))
-unfolding verdict decided Good jobOk inOk outOk exactly
+unfolding verdict decided Good job_ok in_ok out_ok exactly
 keeps-decided rs q d chain k p type sector g u v x =
     let P : Job → Type 0 = λ j. Good rs q d.sectors chain (decided k p j) in
     on P (ltb k.r 16) (λ e. (g, u, v, refl))
@@ -272,7 +272,7 @@ next-whole chain k p a b e y = rw e at (rw (eq-eqb (left chain p).len (left chai
 -- S5
 keeps-payload : (rs : List Region) (q sectors : ℕ) (chain : List ℕ) (k : Walk) (p : Place) (s got : ℕ) → Good rs q sectors chain (Payload k p s got)
     → Good rs q sectors chain (paid k p s got (left chain p).len)
-unfolding paid Good jobOk ends
+unfolding paid Good job_ok ends
 keeps-payload rs q sectors chain k p s got g =
     on (Good rs q sectors chain) (eqb (got + (left chain p).len) (k.r - 16)) (λ e. (g.0, g.1, omega arith, refl))
     (λ e. let t = next-left rs q chain k p (16 + got) g.0 g.5 in
@@ -298,8 +298,8 @@ unfolding Good
 chain-walk rs q sectors chain k cur g = g
 
 -- a length of four bytes
-desc-short : (f : List ℕ) → ((i : ℕ) → get_or f i 0 < 256) → (descAt 0 f).len ≤ 4294967295
-unfolding descAt
+desc-short : (f : List ℕ) → ((i : ℕ) → get_or f i 0 < 256) → (desc_at 0 f).len ≤ 4294967295
+unfolding desc_at
 desc-short f b = omega (arith, word_below 4 8 f b)
 
 keeps-header-all : (rs : List Region) (q : ℕ) (d : Disk) (chain : List ℕ) (k : Walk) (p : Place) (got type sector : ℕ) → Good rs q d.sectors chain (Header k p got)
@@ -326,7 +326,7 @@ keeps-next c t a n mem chain stage Entry b h l g = keeps_entry c.map c.queue.siz
 keeps-next c t a n mem chain stage (Chain k cur) b h l g =
     let f = fetched c (state_of t a n (Chain k cur)) chain mem in
     let w = want c t chain (Chain k cur) in
-    keeps-chain c.map c.queue.size c.disk.sectors chain k cur (descAt 0 f) (chain-walk c.map c.queue.size c.disk.sectors chain k cur g).0
+    keeps-chain c.map c.queue.size c.disk.sectors chain k cur (desc_at 0 f) (chain-walk c.map c.queue.size c.disk.sectors chain k cur g).0
     (chain-walk c.map c.queue.size c.disk.sectors chain k cur g).1
     (desc-short f (part_bytes w.at w.len mem b)) l
 keeps-next c t a n mem chain stage (Header k p got) b h l g =

@@ -11,17 +11,17 @@ use Rattle.model.specs.Pick.{pick}
 use Rattle.model.specs.Bytes.{put, part, bytes}
 use Rattle.model.specs.Sane.{ready}
 use Rattle.model.specs.Request.{status, reported}
-use Rattle.model.specs.Ring.{oneMore}
+use Rattle.model.specs.Ring.{plus_one}
 use borrow.Author.Tests.{le-ltb, eq-eqb}
-use Rattle.model.specs.Step.{Effect, nothing, stores, answers, publishes, Span, Store, apply, scatter, spans, writables, buffer, handed, statusAt, usedAt, answerStores, memStores, effect, diskOf, step, stepWith, fetched, want, left, lacks, code_of, codeAfter, ends, next, Cfg}
+use Rattle.model.specs.Step.{Effect, nothing, stores, answers, publishes, Span, Store, apply, scatter, spans, writables, buffer, handed, status_at, used_at, answer_stores, mem_stores, effect, disk_of, step, step_with, fetched, want, left, lacks, code_of, code_after, ends, next, Cfg}
 use Rattle.model.proofs.Lists.{Apart, below, above, part-cong, put-apart}
 use Rattle.model.proofs.Step.{spans-turn, apply-append}
 use Rattle.model.proofs.Words.{length-bytes}
-use Rattle.words.specs.Layout.{stateWords, rowAt, phaseOf, level, configAt, mapWords, saved, memLenWord, sectorsWord, sizeWord, takenWord, answeredWord, descsWord}
-use Rattle.device.specs.Turn.{Fit, cfgOf, state_of}
+use Rattle.words.specs.Layout.{state_words, row_at, phase_of, level, config_at, map_words, saved, mem_len_word, sectors_word, size_word, taken_word, answered_word, descs_word}
+use Rattle.device.specs.Turn.{Fit, cfg_of, state_of}
 use Rattle.device.specs.Fit.{HeaderFit, PayloadFit}
 use Rattle.device.proofs.Laws.{header-fit, payload-fit, answer-fit}
-use Rattle.hostiledisk.specs.Calls.{Called, untouched, isBroken, longEnough, stepped, steppedOn, Going, hdStep}
+use Rattle.hostiledisk.specs.Calls.{Called, untouched, is_broken, long_enough, stepped, stepped_on, Going, hd_step}
 use Rattle.hostiledisk.proofs.Laws.{fit_of}
 use Rattle.model.proofs.Sane.{chain-ok}
 use Rattle.guarantees.specs.History.{wanted, touched, Clear}
@@ -49,46 +49,46 @@ module _ (s m₁ m₂ backing chain stage : List ℕ) (l : length m₁ ≡ lengt
   same-untouched : (n : ℕ) → Same (untouched n s m₁ backing chain stage) (untouched n s m₂ backing chain stage)
   same-untouched n = record { code_same = refl; state-same = refl; backing-same = refl; chain_same = refl; stage-same = refl }
 
-  same-stepped : Same (steppedOn s m₁ backing chain stage) (steppedOn s m₂ backing chain stage)
-  unfolding steppedOn stepped step stepWith
+  same-stepped : Same (stepped_on s m₁ backing chain stage) (stepped_on s m₂ backing chain stage)
+  unfolding stepped_on stepped step step_with
   same-stepped =
       let e : part (wanted s chain).at (wanted s chain).len m₁ ≡ part (wanted s chain).at (wanted s chain).len m₂ =
       part-cong (wanted s chain).at (wanted s chain).len m₁ m₂ l h in
       record { code_same = rw e; state-same = rw e; backing-same = rw e; chain_same = rw e; stage-same = rw e }
 
-  pub footprint : Same (hdStep s m₁ backing chain stage) (hdStep s m₂ backing chain stage)
-  unfolding hdStep
+  pub footprint : Same (hd_step s m₁ backing chain stage) (hd_step s m₂ backing chain stage)
+  unfolding hd_step
   footprint =
       let u = same-untouched in
       rw l
-      (same-pick (ltb (length s) stateWords) _ _ _ _ (u 4)
+      (same-pick (ltb (length s) state_words) _ _ _ _ (u 4)
       (same-pick (eqb (level s) 3) _ _ _ _
-      (same-pick (isBroken (phaseOf (rowAt s))) _ _ _ _ (u 3)
-      (same-pick (longEnough s (length m₂) (length backing) (length chain) (length stage)) _ _ _ _
-      (same-pick (ready (get_or s memLenWord 0) chain (phaseOf (rowAt s))) _ _ _ _ same-stepped (u 4)) (u 4)))
+      (same-pick (is_broken (phase_of (row_at s))) _ _ _ _ (u 3)
+      (same-pick (long_enough s (length m₂) (length backing) (length chain) (length stage)) _ _ _ _
+      (same-pick (ready (get_or s mem_len_word 0) chain (phase_of (row_at s))) _ _ _ _ same-stepped (u 4)) (u 4)))
       (u 4)))
 
 -- .. the range lies inside the slice
-in-slice : (s mem backing chain stage : List ℕ) (p : Phase) → Fit (configAt s) (get_or s takenWord 0) (get_or s answeredWord 0) p (mapWords s) (length mem) (length backing) chain (length stage)
-    → (want (cfgOf (configAt s) (mapWords s)) (get_or s takenWord 0) chain p).at + (want (cfgOf (configAt s) (mapWords s)) (get_or s takenWord 0) chain p).len ≤ length mem
-unfolding want configAt
+in-slice : (s mem backing chain stage : List ℕ) (p : Phase) → Fit (config_at s) (get_or s taken_word 0) (get_or s answered_word 0) p (map_words s) (length mem) (length backing) chain (length stage)
+    → (want (cfg_of (config_at s) (map_words s)) (get_or s taken_word 0) chain p).at + (want (cfg_of (config_at s) (map_words s)) (get_or s taken_word 0) chain p).len ≤ length mem
+unfolding want config_at
 in-slice s mem backing chain stage Poll f = omega (arith, f.avail-in, f.mem_long)
-in-slice s mem backing chain stage Entry f = omega (arith, f.avail-in, f.mem_long, mod-lt (get_or s takenWord 0) f.size-some)
-in-slice s mem backing chain stage (Chain k cur) f = omega (arith, f.desc-in, f.mem_long, (chain-ok (get_or s sizeWord 0) (get_or s sectorsWord 0) k cur f.sane-phase).cur-in)
+in-slice s mem backing chain stage Entry f = omega (arith, f.avail-in, f.mem_long, mod-lt (get_or s taken_word 0) f.size-some)
+in-slice s mem backing chain stage (Chain k cur) f = omega (arith, f.desc-in, f.mem_long, (chain-ok (get_or s size_word 0) (get_or s sectors_word 0) k cur f.sane-phase).cur-in)
 in-slice s mem backing chain stage (Header k p got) f =
-    let g = header-fit (configAt s) (get_or s takenWord 0) (get_or s answeredWord 0) (mapWords s) (length mem) (length backing) chain (length stage) k p got f in
+    let g = header-fit (config_at s) (get_or s taken_word 0) (get_or s answered_word 0) (map_words s) (length mem) (length backing) chain (length stage) k p got f in
     omega (arith, g.buffer-in, g.skip-in)
 in-slice s mem backing chain stage (Payload k p sector got) f =
-    let g = payload-fit (configAt s) (get_or s takenWord 0) (get_or s answeredWord 0) (mapWords s) (length mem) (length backing) chain (length stage) k p sector got f in
+    let g = payload-fit (config_at s) (get_or s taken_word 0) (get_or s answered_word 0) (map_words s) (length mem) (length backing) chain (length stage) k p sector got f in
     omega (arith, g.buffer-in, g.skip-in)
 in-slice s mem backing chain stage (Answer k job got) f = omega arith
 in-slice s mem backing chain stage (Publish k got) f = omega arith
 in-slice s mem backing chain stage (Broken reason head count at) f = omega arith
 
-pub wanted-in : (s mem backing chain stage : List ℕ) → Going s (phaseOf (rowAt s)) (length mem) (length backing) chain (length stage)
+pub wanted-in : (s mem backing chain stage : List ℕ) → Going s (phase_of (row_at s)) (length mem) (length backing) chain (length stage)
     → (wanted s chain).at + (wanted s chain).len ≤ length mem
 wanted-in s mem backing chain stage g =
-    in-slice s mem backing chain stage (phaseOf (rowAt s)) (fit_of s (phaseOf (rowAt s)) (length mem) (length backing) chain (length stage) g)
+    in-slice s mem backing chain stage (phase_of (row_at s)) (fit_of s (phase_of (row_at s)) (length mem) (length backing) chain (length stage) g)
 
 -- 3. A step leaves every guest byte as it was, except bytes of the ranges that it may write.
 unfoldable Misses : ℕ → List Store → Type 0
@@ -127,24 +127,24 @@ within i a n b k h g (below l) = below (omega arith)
 within i a n b k h g (above l) = above (omega arith)
 
 answer-misses : (id : List ℕ) (q : Queue) (a : ℕ) (chain disk : List ℕ) (k : Walk) (job : Job) (i : ℕ) → k.reads < k.count
-    → 1 ≤ get_or chain (2 * (k.count - 1) + 1) 0 → Clear i (record { at = usedAt q a; len = 8 } ∷ writables chain k)
-    → Misses i (answerStores id q a chain disk k job)
-unfolding answerStores Misses Clear
+    → 1 ≤ get_or chain (2 * (k.count - 1) + 1) 0 → Clear i (record { at = used_at q a; len = 8 } ∷ writables chain k)
+    → Misses i (answer_stores id q a chain disk k job)
+unfolding answer_stores Misses Clear
 answer-misses id q a chain disk k job i w l c =
     let p : k.reads + (k.count - 1 - k.reads) ≡ k.count - 1 = omega arith in
     let last : Apart i (get_or chain (2 * (k.count - 1)) 0) (get_or chain (2 * (k.count - 1) + 1) 0) =
     rw p at (clear_at i k.reads k.count chain (k.count - 1 - k.reads) (omega arith) c.1) in
     misses-append i (scatter (writables chain k) (handed id disk k job))
-    (record { to = statusAt chain k; bytes = status job ∷ [] }
-    ∷ record { to = usedAt q a; bytes = bytes 4 k.head ++ bytes 4 (reported (status job) k.w) } ∷ [])
+    (record { to = status_at chain k; bytes = status job ∷ [] }
+    ∷ record { to = used_at q a; bytes = bytes 4 k.head ++ bytes 4 (reported (status job) k.w) } ∷ [])
     (scatter-misses i (writables chain k) (handed id disk k job) c.1) (
-      within i (get_or chain (2 * (k.count - 1)) 0) (get_or chain (2 * (k.count - 1) + 1) 0) (statusAt chain k) 1 (omega arith) (omega arith) last,
+      within i (get_or chain (2 * (k.count - 1)) 0) (get_or chain (2 * (k.count - 1) + 1) 0) (status_at chain k) 1 (omega arith) (omega arith) last,
       (rw (length-append (bytes 4 k.head) (bytes 4 (reported (status job) k.w)), length-bytes 4 k.head, length-bytes 4 (reported (status job) k.w)) c.0, tt),
     )
 
 -- S1 to S5 write no guest memory
-quiet-paid : (b : Bool) (at : ℕ) (bs : List ℕ) (c : Cfg) (a : ℕ) (chain disk mem : List ℕ) → apply (memStores c a chain disk (pick b (stores at bs) nothing)) mem ≡ mem
-unfolding memStores apply
+quiet-paid : (b : Bool) (at : ℕ) (bs : List ℕ) (c : Cfg) (a : ℕ) (chain disk mem : List ℕ) → apply (mem_stores c a chain disk (pick b (stores at bs) nothing)) mem ≡ mem
+unfolding mem_stores apply
 quiet-paid true at bs c a chain disk mem = refl
 quiet-paid false at bs c a chain disk mem = refl
 
@@ -152,37 +152,37 @@ publish-apart : (at n i : ℕ) → Clear i (record { at = at; len = 2 } ∷ []) 
 unfolding Clear
 publish-apart at n i c = rw (length-bytes 2 n) c.0
 
-wall-phase : (s mem backing chain stage : List ℕ) (p : Phase) (i : ℕ) → Fit (configAt s) (get_or s takenWord 0) (get_or s answeredWord 0) p (mapWords s) (length mem) (length backing) chain (length stage)
-    → Clear i (touched (configAt s).queue (get_or s answeredWord 0) chain p)
-    → get_or (step (cfgOf (configAt s) (mapWords s)) (state_of (get_or s takenWord 0) (get_or s answeredWord 0) (get_or s descsWord 0) p) mem backing chain stage).mem i 0 ≡ get_or mem i 0
-unfolding touched step stepWith effect memStores apply
+wall-phase : (s mem backing chain stage : List ℕ) (p : Phase) (i : ℕ) → Fit (config_at s) (get_or s taken_word 0) (get_or s answered_word 0) p (map_words s) (length mem) (length backing) chain (length stage)
+    → Clear i (touched (config_at s).queue (get_or s answered_word 0) chain p)
+    → get_or (step (cfg_of (config_at s) (map_words s)) (state_of (get_or s taken_word 0) (get_or s answered_word 0) (get_or s descs_word 0) p) mem backing chain stage).mem i 0 ≡ get_or mem i 0
+unfolding touched step step_with effect mem_stores apply
 wall-phase s mem backing chain stage Poll i f c = refl
 wall-phase s mem backing chain stage Entry i f c = refl
 wall-phase s mem backing chain stage (Chain k cur) i f c = refl
 wall-phase s mem backing chain stage (Header k p got) i f c = refl
 wall-phase s mem backing chain stage (Payload k p sector got) i f c =
-    let o = cfgOf (configAt s) (mapWords s) in
+    let o = cfg_of (config_at s) (map_words s) in
     ap (λ (m : List ℕ). get_or m i 0)
     (quiet-paid (ends k got (left chain p).len) (512 * sector)
-    (part 0 got stage ++ fetched o (state_of (get_or s takenWord 0) (get_or s answeredWord 0) (get_or s descsWord 0) (Payload k p sector got)) chain mem) o (get_or s answeredWord 0) chain (diskOf (configAt s).disk backing) mem)
+    (part 0 got stage ++ fetched o (state_of (get_or s taken_word 0) (get_or s answered_word 0) (get_or s descs_word 0) (Payload k p sector got)) chain mem) o (get_or s answered_word 0) chain (disk_of (config_at s).disk backing) mem)
 wall-phase s mem backing chain stage (Answer k job got) i f c =
-    let o = cfgOf (configAt s) (mapWords s) in
-    let g = answer-fit (configAt s) (get_or s takenWord 0) (get_or s answeredWord 0) (mapWords s) (length mem) (length backing) chain (length stage) k job got f in
-    apply-clear (answerStores o.id o.queue (get_or s answeredWord 0) chain (diskOf (configAt s).disk backing) k job) mem i
-    (answer-misses o.id o.queue (get_or s answeredWord 0) chain (diskOf (configAt s).disk backing) k job i g.writable g.last_some c)
-wall-phase s mem backing chain stage (Publish k got) i f c = put-apart mem ((configAt s).queue.used + 2) (bytes 2 (oneMore (get_or s answeredWord 0))) i (publish-apart ((configAt s).queue.used + 2) (oneMore (get_or s answeredWord 0)) i c)
+    let o = cfg_of (config_at s) (map_words s) in
+    let g = answer-fit (config_at s) (get_or s taken_word 0) (get_or s answered_word 0) (map_words s) (length mem) (length backing) chain (length stage) k job got f in
+    apply-clear (answer_stores o.id o.queue (get_or s answered_word 0) chain (disk_of (config_at s).disk backing) k job) mem i
+    (answer-misses o.id o.queue (get_or s answered_word 0) chain (disk_of (config_at s).disk backing) k job i g.writable g.last_some c)
+wall-phase s mem backing chain stage (Publish k got) i f c = put-apart mem ((config_at s).queue.used + 2) (bytes 2 (plus_one (get_or s answered_word 0))) i (publish-apart ((config_at s).queue.used + 2) (plus_one (get_or s answered_word 0)) i c)
 wall-phase s mem backing chain stage (Broken reason head count at) i f c = refl
 
-pub walls-memory : (s mem backing chain stage : List ℕ) (i : ℕ) → Clear i (touched (configAt s).queue (get_or s answeredWord 0) chain (phaseOf (rowAt s)))
-    → get_or (hdStep s mem backing chain stage).mem i 0 ≡ get_or mem i 0
-unfolding steppedOn stepped
+pub walls-memory : (s mem backing chain stage : List ℕ) (i : ℕ) → Clear i (touched (config_at s).queue (get_or s answered_word 0) chain (phase_of (row_at s)))
+    → get_or (hd_step s mem backing chain stage).mem i 0 ≡ get_or mem i 0
+unfolding stepped_on stepped
 walls-memory s mem backing chain stage i c =
     by-step (λ (o : Called). get_or o.mem i 0 ≡ get_or mem i 0) s mem backing chain stage (λ n. refl)
-    (λ g. wall-phase s mem backing chain stage (phaseOf (rowAt s)) i (fit_of s (phaseOf (rowAt s)) (length mem) (length backing) chain (length stage) g) c)
+    (λ g. wall-phase s mem backing chain stage (phase_of (row_at s)) i (fit_of s (phase_of (row_at s)) (length mem) (length backing) chain (length stage) g) c)
 
 -- 4. A step that is refused (4), and a step of a broken queue, touch nothing.
-after-low : (p : Phase) → codeAfter p < 4
-unfolding codeAfter
+after-low : (p : Phase) → code_after p < 4
+unfolding code_after
 after-low Poll = omega arith
 after-low Entry = omega arith
 after-low (Chain k cur) = omega arith
@@ -199,17 +199,17 @@ code-low (stores at bs) p = after-low p
 code-low (answers k job) p = after-low p
 code-low publishes p = omega arith
 
-pub refused-untouched : (s mem backing chain stage : List ℕ) → (hdStep s mem backing chain stage).code ≡ 4
-    → hdStep s mem backing chain stage ≡ untouched 4 s mem backing chain stage
-unfolding steppedOn stepped step stepWith
+pub refused-untouched : (s mem backing chain stage : List ℕ) → (hd_step s mem backing chain stage).code ≡ 4
+    → hd_step s mem backing chain stage ≡ untouched 4 s mem backing chain stage
+unfolding stepped_on stepped step step_with
 refused-untouched s mem backing chain stage =
-    let p = phaseOf (rowAt s) in
-    let c = cfgOf (configAt s) (mapWords s) in
-    let f = fetched c (state_of (get_or s takenWord 0) (get_or s answeredWord 0) (get_or s descsWord 0) p) chain mem in
+    let p = phase_of (row_at s) in
+    let c = cfg_of (config_at s) (map_words s) in
+    let f = fetched c (state_of (get_or s taken_word 0) (get_or s answered_word 0) (get_or s descs_word 0) p) chain mem in
     by-step (λ (o : Called). o.code ≡ 4 → o ≡ untouched 4 s mem backing chain stage) s mem backing chain stage (λ n e. rw e)
-    (λ g e. absurd (omega (arith, code-low (effect chain stage p f) (next c (get_or s takenWord 0) chain stage p f), e)))
+    (λ g e. absurd (omega (arith, code-low (effect chain stage p f) (next c (get_or s taken_word 0) chain stage p f), e)))
 
-pub broken-untouched : (s mem backing chain stage : List ℕ) (reason head count at : ℕ) → stateWords ≤ length s → level s ≡ 3
-    → phaseOf (rowAt s) ≡ Broken reason head count at → hdStep s mem backing chain stage ≡ untouched 3 s mem backing chain stage
-unfolding hdStep isBroken
-broken-untouched s mem backing chain stage reason head count at l h e = rw (le-ltb (length s) stateWords l, eq-eqb (level s) 3 h, e)
+pub broken-untouched : (s mem backing chain stage : List ℕ) (reason head count at : ℕ) → state_words ≤ length s → level s ≡ 3
+    → phase_of (row_at s) ≡ Broken reason head count at → hd_step s mem backing chain stage ≡ untouched 3 s mem backing chain stage
+unfolding hd_step is_broken
+broken-untouched s mem backing chain stage reason head count at l h e = rw (le-ltb (length s) state_words l, eq-eqb (level s) 3 h, e)

@@ -9,9 +9,9 @@ use borrow.Author.Tests.{eqb-true}
 use Rattle.model.specs.Pick.{pick, both}
 use Rattle.model.specs.Bytes.{put, word}
 use Rattle.model.specs.Ring.{polled, headed, pending}
-use Rattle.model.specs.Chain.{descAt, tested, tally, complete, described}
-use Rattle.model.specs.Request.{fits, inOk, outOk, exactly, verdict, decided}
-use Rattle.model.specs.Step.{Cfg, left, lacks, ends, onward, gathered, paid, next, effect, diskStores}
+use Rattle.model.specs.Chain.{desc_at, tested, tally, complete, described}
+use Rattle.model.specs.Request.{fits, in_ok, out_ok, exactly, verdict, decided}
+use Rattle.model.specs.Step.{Cfg, left, lacks, ends, onward, gathered, paid, next, effect, disk_stores}
 use Rattle.model.proofs.Tests.{on, both_r}
 use Rattle.guarantees.specs.Good.{Open}
 use Rattle.model.specs.declared.Desc.{Desc}
@@ -36,7 +36,7 @@ open-chain ro k cur d (Next x) = tt
 open-chain ro k cur d (Last x) = open-complete ro (tally k d.flags d.len) cur
 
 open-decided : (d : Disk) (k : Walk) (p : Place) (type sector : ℕ) → Open d.ro (decided k p (verdict d type sector k.r k.w))
-unfolding verdict decided Open inOk outOk exactly
+unfolding verdict decided Open in_ok out_ok exactly
 open-decided d k p type sector =
     let P : Job → Type 0 = λ j. Open d.ro (decided k p j) in
     on P (ltb k.r 16) (λ e. tt)
@@ -55,7 +55,7 @@ unfolding next polled headed gathered paid Open
 keeps-open c t chain stage Poll f o =
     on (Open c.disk.ro) (eqb (pending (word 2 0 f) t) 0) (λ e. tt) (λ e. on (Open c.disk.ro) (ltb c.queue.size (pending (word 2 0 f) t)) (λ e. tt) (λ e. tt))
 keeps-open c t chain stage Entry f o = on (Open c.disk.ro) (leb c.queue.size (word 2 0 f)) (λ e. tt) (λ e. tt)
-keeps-open c t chain stage (Chain k cur) f o = open-chain c.disk.ro k cur (descAt 0 f) (tested c.map c.queue.size k (descAt 0 f))
+keeps-open c t chain stage (Chain k cur) f o = open-chain c.disk.ro k cur (desc_at 0 f) (tested c.map c.queue.size k (desc_at 0 f))
 keeps-open c t chain stage (Header k p got) f o =
     let l = (left chain p).len in
     on (Open c.disk.ro) (ltb (got + lacks got l) 16) (λ e. tt)
@@ -66,8 +66,8 @@ keeps-open c t chain stage (Publish k got) f o = tt
 keeps-open c t chain stage (Broken reason head count at) f o = tt
 
 -- on a read-only disk no step stores
-pub locked : (ro : ℕ) (chain stage f : List ℕ) (p : Phase) → (ro ≡ 0 → ⊥) → Open ro p → diskStores (effect chain stage p f) ≡ []
-unfolding Open effect diskStores
+pub locked : (ro : ℕ) (chain stage f : List ℕ) (p : Phase) → (ro ≡ 0 → ⊥) → Open ro p → disk_stores (effect chain stage p f) ≡ []
+unfolding Open effect disk_stores
 locked ro chain stage f Poll n o = refl
 locked ro chain stage f Entry n o = refl
 locked ro chain stage f (Chain k cur) n o = refl

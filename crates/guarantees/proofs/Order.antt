@@ -10,20 +10,20 @@ use lib.ListN.{get_or, length, length-append}
 use borrow.Author.Tests.{ne_eqb, eqb-true, eqb-false}
 use Rattle.model.specs.Pick.{pick}
 use Rattle.model.specs.Bytes.{put, part, word, bytes}
-use Rattle.model.specs.Ring.{polled, headed, pending, oneMore}
-use Rattle.model.specs.Chain.{descAt, tested, tally, complete, described}
+use Rattle.model.specs.Ring.{polled, headed, pending, plus_one}
+use Rattle.model.specs.Chain.{desc_at, tested, tally, complete, described}
 use Rattle.model.specs.Request.{verdict, decided, status, reported}
-use Rattle.model.specs.Step.{Cfg, Effect, nothing, stores, answers, publishes, left, lacks, ends, onward, gathered, paid, next, effect, code_of, codeAfter, counted, fetched, measured, step, stepWith, apply, scatter, writables, handed, statusAt, usedAt, answerStores, memStores, diskOf}
+use Rattle.model.specs.Step.{Cfg, Effect, nothing, stores, answers, publishes, left, lacks, ends, onward, gathered, paid, next, effect, code_of, code_after, counted, fetched, measured, step, step_with, apply, scatter, writables, handed, status_at, used_at, answer_stores, mem_stores, disk_of}
 use Rattle.model.proofs.Tests.{on}
 use Rattle.model.proofs.Lists.{length-put, part-put}
 use Rattle.model.proofs.Words.{length-bytes}
 use Rattle.model.proofs.Step.{apply-append, length-apply}
-use Rattle.words.specs.Layout.{stateWords, rowAt, phaseOf, configAt, mapWords, saved, level, takenWord, answeredWord, descsWord}
+use Rattle.words.specs.Layout.{state_words, row_at, phase_of, config_at, map_words, saved, level, taken_word, answered_word, descs_word}
 use Rattle.words.proofs.Saved.{phase-saved, taken-saved, answered-saved}
-use Rattle.device.specs.Turn.{cfgOf, state_of}
-use Rattle.hostiledisk.specs.Calls.{Called, stepped, steppedOn, Going, hdStep}
+use Rattle.device.specs.Turn.{cfg_of, state_of}
+use Rattle.hostiledisk.specs.Calls.{Called, stepped, stepped_on, Going, hd_step}
 use Rattle.hostiledisk.proofs.Laws.{fit_of}
-use Rattle.guarantees.specs.History.{Call, step as stepOver, World, ran, left as leaves, run, steps, answersIn}
+use Rattle.guarantees.specs.History.{Call, step as stepOver, World, ran, left as leaves, run, steps, answers_in}
 use Rattle.guarantees.specs.Accounts.{AfterAnswer}
 use Rattle.guarantees.proofs.Step.{by_answer}
 use Rattle.model.specs.declared.Queue.{Queue}
@@ -83,7 +83,7 @@ after-answer c t chain stage Poll f k got e =
 after-answer c t chain stage Entry f k got e =
     differ (headed c.queue.size (word 2 0 f)) k got (on (λ (p : Phase). publishing p ≡ false) (leb c.queue.size (word 2 0 f)) (λ e. refl) (λ e. refl)) e
 after-answer c t chain stage (Chain j cur) f k got e =
-    differ (described j cur (descAt 0 f) (tested c.map c.queue.size j (descAt 0 f))) k got (not-described j cur (descAt 0 f) (tested c.map c.queue.size j (descAt 0 f))) e
+    differ (described j cur (desc_at 0 f) (tested c.map c.queue.size j (desc_at 0 f))) k got (not-described j cur (desc_at 0 f) (tested c.map c.queue.size j (desc_at 0 f))) e
 after-answer c t chain stage (Header j p g) f k got e =
     let l = (left chain p).len in
     differ (gathered c.disk j p g l (lacks g l) (word 4 0 (put stage g f)) (word 8 8 (put stage g f))) k got
@@ -96,44 +96,44 @@ after-answer c t chain stage (Publish j g) f k got e = differ Poll k got refl e
 after-answer c t chain stage (Broken reason head count at) f k got e = differ (Broken reason head count at) k got refl e
 
 -- S6 leaves the used entry in place: it is the last thing that it writes
-entry-last : (id : List ℕ) (q : Queue) (a : ℕ) (chain disk mem : List ℕ) (k : Walk) (job : Job) → usedAt q a + 8 ≤ length mem
-    → part (usedAt q a) 8 (apply (answerStores id q a chain disk k job) mem) ≡ bytes 4 k.head ++ bytes 4 (reported (status job) k.w)
-unfolding answerStores apply
+entry-last : (id : List ℕ) (q : Queue) (a : ℕ) (chain disk mem : List ℕ) (k : Walk) (job : Job) → used_at q a + 8 ≤ length mem
+    → part (used_at q a) 8 (apply (answer_stores id q a chain disk k job) mem) ≡ bytes 4 k.head ++ bytes 4 (reported (status job) k.w)
+unfolding answer_stores apply
 entry-last id q a chain disk mem k job h =
     let xs = scatter (writables chain k) (handed id disk k job) in
     let b = bytes 4 k.head ++ bytes 4 (reported (status job) k.w) in
-    let m = put (apply xs mem) (statusAt chain k) (status job ∷ []) in
+    let m = put (apply xs mem) (status_at chain k) (status job ∷ []) in
     let n : length b ≡ 8 = rw (length-append (bytes 4 k.head) (bytes 4 (reported (status job) k.w)), length-bytes 4 k.head, length-bytes 4 (reported (status job) k.w)) in
-    let l : length m ≡ length mem = length-put (apply xs mem) (statusAt chain k) (status job ∷ []) ∙ length-apply xs mem in
-    rw (apply-append) (part-put m (usedAt q a) 8 b n (rw l h))
+    let l : length m ≡ length mem = length-put (apply xs mem) (status_at chain k) (status job ∷ []) ∙ length-apply xs mem in
+    rw (apply-append) (part-put m (used_at q a) 8 b n (rw l h))
 
-entry-step : (s mem backing chain stage : List ℕ) (k : Walk) (job : Job) (got : ℕ) → phaseOf (rowAt s) ≡ Answer k job got → usedAt (configAt s).queue (get_or s answeredWord 0) + 8 ≤ length mem
-    → part (usedAt (configAt s).queue (get_or s answeredWord 0)) 8 (steppedOn s mem backing chain stage).mem ≡ bytes 4 k.head ++ bytes 4 (reported (status job) k.w)
-unfolding steppedOn stepped step stepWith effect memStores
+entry-step : (s mem backing chain stage : List ℕ) (k : Walk) (job : Job) (got : ℕ) → phase_of (row_at s) ≡ Answer k job got → used_at (config_at s).queue (get_or s answered_word 0) + 8 ≤ length mem
+    → part (used_at (config_at s).queue (get_or s answered_word 0)) 8 (stepped_on s mem backing chain stage).mem ≡ bytes 4 k.head ++ bytes 4 (reported (status job) k.w)
+unfolding stepped_on stepped step step_with effect mem_stores
 entry-step s mem backing chain stage k job got e h =
-    rw e (entry-last (cfgOf (configAt s) (mapWords s)).id (configAt s).queue (get_or s answeredWord 0) chain (diskOf (configAt s).disk backing) mem k job h)
+    rw e (entry-last (cfg_of (config_at s) (map_words s)).id (config_at s).queue (get_or s answered_word 0) chain (disk_of (config_at s).disk backing) mem k job h)
 
 -- 12. If a step leaves a queue that publishes next, that step was S6 of the same request, and the memory that it leaves holds the used entry.
-pub order : (s mem backing chain stage : List ℕ) (k : Walk) (got : ℕ) → Going s (phaseOf (rowAt s)) (length mem) (length backing) chain (length stage)
-    → phaseOf (rowAt (steppedOn s mem backing chain stage).state) ≡ Publish k got
-    → (j : AfterAnswer (phaseOf (rowAt s)) k got)
-    × (part (usedAt (configAt s).queue (get_or s answeredWord 0)) 8 (steppedOn s mem backing chain stage).mem ≡ bytes 4 k.head ++ bytes 4 (reported (status j.job) k.w))
-unfolding steppedOn stepped step stepWith
+pub order : (s mem backing chain stage : List ℕ) (k : Walk) (got : ℕ) → Going s (phase_of (row_at s)) (length mem) (length backing) chain (length stage)
+    → phase_of (row_at (stepped_on s mem backing chain stage).state) ≡ Publish k got
+    → (j : AfterAnswer (phase_of (row_at s)) k got)
+    × (part (used_at (config_at s).queue (get_or s answered_word 0)) 8 (stepped_on s mem backing chain stage).mem ≡ bytes 4 k.head ++ bytes 4 (reported (status j.job) k.w))
+unfolding stepped_on stepped step step_with
 order s mem backing chain stage k got g e =
-    let p = phaseOf (rowAt s) in
-    let c = cfgOf (configAt s) (mapWords s) in
-    let f = fetched c (state_of (get_or s takenWord 0) (get_or s answeredWord 0) (get_or s descsWord 0) p) chain mem in
-    let q = next c (get_or s takenWord 0) chain stage p f in
-    let t = counted (effect chain stage p f) (get_or s takenWord 0) in
-    let a = counted (effect chain stage p f) (get_or s answeredWord 0) in
-    let n = measured c (get_or s descsWord 0) p f in
-    let j = after-answer c (get_or s takenWord 0) chain stage p f k got (sym (phase-saved s t a n q g.words_long) ∙ e) in
+    let p = phase_of (row_at s) in
+    let c = cfg_of (config_at s) (map_words s) in
+    let f = fetched c (state_of (get_or s taken_word 0) (get_or s answered_word 0) (get_or s descs_word 0) p) chain mem in
+    let q = next c (get_or s taken_word 0) chain stage p f in
+    let t = counted (effect chain stage p f) (get_or s taken_word 0) in
+    let a = counted (effect chain stage p f) (get_or s answered_word 0) in
+    let n = measured c (get_or s descs_word 0) p f in
+    let j = after-answer c (get_or s taken_word 0) chain stage p f k got (sym (phase-saved s t a n q g.words_long) ∙ e) in
     let x = fit_of s p (length mem) (length backing) chain (length stage) g in
-    (j, entry-step s mem backing chain stage k j.job got j.is (omega (arith, x.used-in, x.mem_long, mod-lt (get_or s answeredWord 0) x.size-some)))
+    (j, entry-step s mem backing chain stage k j.job got j.is (omega (arith, x.used-in, x.mem_long, mod-lt (get_or s answered_word 0) x.size-some)))
 
 -- 11, the counters. A call that answers 2 counts, no other does.
-after-not-two : (p : Phase) → codeAfter p ≡ 2 → ⊥
-unfolding codeAfter
+after-not-two : (p : Phase) → code_after p ≡ 2 → ⊥
+unfolding code_after
 after-not-two Poll e = omega arith
 after-not-two Entry e = omega arith
 after-not-two (Chain k cur) e = omega arith
@@ -143,32 +143,32 @@ after-not-two (Answer k job got) e = omega arith
 after-not-two (Publish k got) e = omega arith
 after-not-two (Broken reason head count at) e = omega arith
 
-counts : (e : Effect) (p : Phase) (n : ℕ) → counted e n ≡ pick (eqb (code_of e p) 2) (oneMore n) n
+counts : (e : Effect) (p : Phase) (n : ℕ) → counted e n ≡ pick (eqb (code_of e p) 2) (plus_one n) n
 unfolding counted code_of
-counts nothing p n = rw (ne_eqb (codeAfter p) 2 (after-not-two p))
-counts (stores at bs) p n = rw (ne_eqb (codeAfter p) 2 (after-not-two p))
-counts (answers k job) p n = rw (ne_eqb (codeAfter p) 2 (after-not-two p))
+counts nothing p n = rw (ne_eqb (code_after p) 2 (after-not-two p))
+counts (stores at bs) p n = rw (ne_eqb (code_after p) 2 (after-not-two p))
+counts (answers k job) p n = rw (ne_eqb (code_after p) 2 (after-not-two p))
 counts publishes p n = refl
 
 -- both counters after a call of hd_step
 pub record Counted (s : List ℕ) (o : Called) : Type 0 where
-  pub taken_is : get_or o.state takenWord 0 ≡ pick (eqb o.code 2) (oneMore (get_or s takenWord 0)) (get_or s takenWord 0)
-  pub answered-is : get_or o.state answeredWord 0 ≡ pick (eqb o.code 2) (oneMore (get_or s answeredWord 0)) (get_or s answeredWord 0)
+  pub taken_is : get_or o.state taken_word 0 ≡ pick (eqb o.code 2) (plus_one (get_or s taken_word 0)) (get_or s taken_word 0)
+  pub answered-is : get_or o.state answered_word 0 ≡ pick (eqb o.code 2) (plus_one (get_or s answered_word 0)) (get_or s answered_word 0)
 
-counted-stepped : (s mem backing chain stage : List ℕ) → stateWords ≤ length s → Counted s (steppedOn s mem backing chain stage)
-unfolding steppedOn stepped step stepWith
+counted-stepped : (s mem backing chain stage : List ℕ) → state_words ≤ length s → Counted s (stepped_on s mem backing chain stage)
+unfolding stepped_on stepped step step_with
 counted-stepped s mem backing chain stage l =
-    let p = phaseOf (rowAt s) in
-    let c = cfgOf (configAt s) (mapWords s) in
-    let f = fetched c (state_of (get_or s takenWord 0) (get_or s answeredWord 0) (get_or s descsWord 0) p) chain mem in
-    let q = next c (get_or s takenWord 0) chain stage p f in
+    let p = phase_of (row_at s) in
+    let c = cfg_of (config_at s) (map_words s) in
+    let f = fetched c (state_of (get_or s taken_word 0) (get_or s answered_word 0) (get_or s descs_word 0) p) chain mem in
+    let q = next c (get_or s taken_word 0) chain stage p f in
     let e = effect chain stage p f in
     record {
-      taken_is = taken-saved s (counted e (get_or s takenWord 0)) (counted e (get_or s answeredWord 0)) (measured c (get_or s descsWord 0) p f) q l ∙ counts e q (get_or s takenWord 0);
-      answered-is = answered-saved s (counted e (get_or s takenWord 0)) (counted e (get_or s answeredWord 0)) (measured c (get_or s descsWord 0) p f) q l ∙ counts e q (get_or s answeredWord 0);
+      taken_is = taken-saved s (counted e (get_or s taken_word 0)) (counted e (get_or s answered_word 0)) (measured c (get_or s descs_word 0) p f) q l ∙ counts e q (get_or s taken_word 0);
+      answered-is = answered-saved s (counted e (get_or s taken_word 0)) (counted e (get_or s answered_word 0)) (measured c (get_or s descs_word 0) p f) q l ∙ counts e q (get_or s answered_word 0);
     }
 
-pub counters-step : (s mem backing chain stage : List ℕ) → Counted s (hdStep s mem backing chain stage)
+pub counters-step : (s mem backing chain stage : List ℕ) → Counted s (hd_step s mem backing chain stage)
 counters-step s mem backing chain stage =
     by_answer (Counted s) s mem backing chain stage
     (λ n h. let t = ne_eqb n 2 (λ z. omega arith) in record { taken_is = rw t; answered-is = rw t })
@@ -178,27 +178,27 @@ counters-call : (w : World) (m : List ℕ) → Counted w.state (ran w (stepOver 
 unfolding ran
 counters-call w m = counters-step w.state m w.backing w.chain w.stage
 
-more : (b : Bool) (n : ℕ) → n < 65536 → pick b (oneMore n) n ≡ (n + pick b 1 0) % 65536
-unfolding oneMore
+more : (b : Bool) (n : ℕ) → n < 65536 → pick b (plus_one n) n ≡ (n + pick b 1 0) % 65536
+unfolding plus_one
 more true n h = refl
 more false n h = omega arith
 
 -- n answers further on both counters are n further, modulo 2^16; and so is used idx, since S7 publishes the new one
-pub counters : (w : World) (ms : List (List ℕ)) → get_or w.state takenWord 0 < 65536 → get_or w.state answeredWord 0 < 65536
-    → (get_or (run w (steps ms)).state takenWord 0 ≡ (get_or w.state takenWord 0 + answersIn w ms) % 65536)
-    × (get_or (run w (steps ms)).state answeredWord 0 ≡ (get_or w.state answeredWord 0 + answersIn w ms) % 65536)
-unfolding run steps answersIn
+pub counters : (w : World) (ms : List (List ℕ)) → get_or w.state taken_word 0 < 65536 → get_or w.state answered_word 0 < 65536
+    → (get_or (run w (steps ms)).state taken_word 0 ≡ (get_or w.state taken_word 0 + answers_in w ms) % 65536)
+    × (get_or (run w (steps ms)).state answered_word 0 ≡ (get_or w.state answered_word 0 + answers_in w ms) % 65536)
+unfolding run steps answers_in
 counters w [] h k = (omega arith, omega arith)
 counters w (m ∷ ms) h k =
     let v = leaves (ran w (stepOver m)) in
     let x = counters-call w m in
     let b = eqb (ran w (stepOver m)).code 2 in
-    let p : get_or v.state takenWord 0 ≡ (get_or w.state takenWord 0 + pick b 1 0) % 65536 = x.taken_is ∙ more b (get_or w.state takenWord 0) h in
-    let q : get_or v.state answeredWord 0 ≡ (get_or w.state answeredWord 0 + pick b 1 0) % 65536 = x.answered-is ∙ more b (get_or w.state answeredWord 0) k in
+    let p : get_or v.state taken_word 0 ≡ (get_or w.state taken_word 0 + pick b 1 0) % 65536 = x.taken_is ∙ more b (get_or w.state taken_word 0) h in
+    let q : get_or v.state answered_word 0 ≡ (get_or w.state answered_word 0 + pick b 1 0) % 65536 = x.answered-is ∙ more b (get_or w.state answered_word 0) k in
     let r = counters v ms (omega arith) (omega arith) in
     (r.0 ∙ rw p (omega arith), r.1 ∙ rw q (omega arith))
 
-pub published : (s mem backing chain stage : List ℕ) (k : Walk) (got : ℕ) → phaseOf (rowAt s) ≡ Publish k got
-    → (steppedOn s mem backing chain stage).mem ≡ put mem ((configAt s).queue.used + 2) (bytes 2 (oneMore (get_or s answeredWord 0)))
-unfolding steppedOn stepped step stepWith effect memStores apply
+pub published : (s mem backing chain stage : List ℕ) (k : Walk) (got : ℕ) → phase_of (row_at s) ≡ Publish k got
+    → (stepped_on s mem backing chain stage).mem ≡ put mem ((config_at s).queue.used + 2) (bytes 2 (plus_one (get_or s answered_word 0)))
+unfolding stepped_on stepped step step_with effect mem_stores apply
 published s mem backing chain stage k got e = rw e

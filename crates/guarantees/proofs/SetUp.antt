@@ -6,12 +6,12 @@ use mathlib.Core.Path.{◌≡◌, refl, ap, sym, ◌∙◌}
 use lib.Dec.{leb, ltb, eqb}
 use lib.ListN.{length}
 use Rattle.model.specs.Pick.{both}
-use Rattle.model.specs.Memory.{regions, memoryCode}
+use Rattle.model.specs.Memory.{regions, memory_code}
 use Rattle.model.specs.Ring.{areas}
-use Rattle.model.specs.Request.{diskCode}
+use Rattle.model.specs.Request.{disk_code}
 use Rattle.model.proofs.Tests.{on}
-use Rattle.words.specs.Layout.{stateWords, mapWords, level}
-use Rattle.hostiledisk.specs.Calls.{Set, hdMemory, hdDisk, enabledWith, hdEnableAt}
+use Rattle.words.specs.Layout.{state_words, map_words, level}
+use Rattle.hostiledisk.specs.Calls.{Set, hd_memory, hd_disk, enabled_with, hd_enable_at}
 use Rattle.model.specs.declared.Areas.{Areas}
 use Rattle.model.specs.declared.Areas.TheVariants.{Refused, Placed}
 
@@ -19,29 +19,29 @@ use Rattle.model.specs.declared.Areas.TheVariants.{Refused, Placed}
 abbrev Keeps : List ℕ → Set → Type 0
 Keeps s x = (x.code ≡ 0 → ⊥) → x.state ≡ s
 
-pub memory-refused : (s ws : List ℕ) (m : ℕ) → ((hdMemory s ws m).code ≡ 0 → ⊥) → (hdMemory s ws m).state ≡ s
-unfolding hdMemory
+pub memory-refused : (s ws : List ℕ) (m : ℕ) → ((hd_memory s ws m).code ≡ 0 → ⊥) → (hd_memory s ws m).state ≡ s
+unfolding hd_memory
 memory-refused s ws m =
-    on (Keeps s) (ltb (length s) stateWords) (λ e n. refl) (λ e. on (Keeps s) (eqb (memoryCode m ws) 0) (λ f n. absurd (n refl)) (λ f n. refl))
+    on (Keeps s) (ltb (length s) state_words) (λ e n. refl) (λ e. on (Keeps s) (eqb (memory_code m ws) 0) (λ f n. absurd (n refl)) (λ f n. refl))
 
-pub disk-refused : (s : List ℕ) (start sectors ro : ℕ) (id : List ℕ) (b : ℕ) → ((hdDisk s start sectors ro id b).code ≡ 0 → ⊥) → (hdDisk s start sectors ro id b).state ≡ s
-unfolding hdDisk
+pub disk-refused : (s : List ℕ) (start sectors ro : ℕ) (id : List ℕ) (b : ℕ) → ((hd_disk s start sectors ro id b).code ≡ 0 → ⊥) → (hd_disk s start sectors ro id b).state ≡ s
+unfolding hd_disk
 disk-refused s start sectors ro id b =
-    on (Keeps s) (ltb (length s) stateWords) (λ e n. refl)
+    on (Keeps s) (ltb (length s) state_words) (λ e n. refl)
     (λ e. on (Keeps s) (both (leb 1 (level s)) (leb (level s) 2))
-    (λ e. on (Keeps s) (eqb (length id) 20) (λ e. on (Keeps s) (eqb (diskCode start sectors b) 0) (λ f n. absurd (n refl)) (λ f n. refl)) (λ e n. refl))
+    (λ e. on (Keeps s) (eqb (length id) 20) (λ e. on (Keeps s) (eqb (disk_code start sectors b) 0) (λ f n. absurd (n refl)) (λ f n. refl)) (λ e n. refl))
     (λ e n. refl))
 
-enabled-refused : (s : List ℕ) (c g start : ℕ) (x : Areas) → Keeps s (enabledWith s c g start x)
-unfolding enabledWith
+enabled-refused : (s : List ℕ) (c g start : ℕ) (x : Areas) → Keeps s (enabled_with s c g start x)
+unfolding enabled_with
 enabled-refused s c g start (Refused n) = λ e. refl
 enabled-refused s c g start (Placed q) =
     on (Keeps s) (ltb c (2 * q.size)) (λ e n. refl)
     (λ e. on (Keeps s) (ltb g 1048576) (λ e n. refl) (λ e. on (Keeps s) (leb 65536 start) (λ e n. refl) (λ e n. absurd (n refl))))
 
-pub enable-refused : (s : List ℕ) (size desc avail used c g start : ℕ) → ((hdEnableAt s size desc avail used c g start).code ≡ 0 → ⊥)
-    → (hdEnableAt s size desc avail used c g start).state ≡ s
-unfolding hdEnableAt
+pub enable-refused : (s : List ℕ) (size desc avail used c g start : ℕ) → ((hd_enable_at s size desc avail used c g start).code ≡ 0 → ⊥)
+    → (hd_enable_at s size desc avail used c g start).state ≡ s
+unfolding hd_enable_at
 enable-refused s size desc avail used c g start =
-    on (Keeps s) (ltb (length s) stateWords) (λ e n. refl)
-    (λ e. on (Keeps s) (eqb (level s) 2) (λ f. enabled-refused s c g start (areas (regions (mapWords s)) size desc avail used)) (λ f n. refl))
+    on (Keeps s) (ltb (length s) state_words) (λ e n. refl)
+    (λ e. on (Keeps s) (eqb (level s) 2) (λ f. enabled-refused s c g start (areas (regions (map_words s)) size desc avail used)) (λ f n. refl))

@@ -10,12 +10,12 @@ use borrow.Author.Tests.{ltb-true, ltb-false, leb-true, leb-false, eqb-true, eqb
 use Rattle.model.specs.Pick.{pick}
 use Rattle.model.specs.Bytes.{put, part}
 use Rattle.model.specs.Sane.{ready}
-use Rattle.model.specs.Step.{Effect, nothing, stores, answers, publishes, shifted, diskStores, effect, diskOf, step, stepWith, fetched}
+use Rattle.model.specs.Step.{Effect, nothing, stores, answers, publishes, shifted, disk_stores, effect, disk_of, step, step_with, fetched}
 use Rattle.model.proofs.Lists.{Apart, below, above, length-put, part-cong}
-use Rattle.words.specs.Layout.{stateWords, rowAt, phaseOf, level, configAt, mapWords, memLenWord, startWord, sectorsWord, takenWord, answeredWord, descsWord}
-use Rattle.device.specs.Turn.{cfgOf, state_of}
-use Rattle.hostiledisk.specs.Calls.{Called, untouched, isBroken, longEnough, stepped, steppedOn, hdStep}
-use Rattle.guarantees.specs.History.{Call, memory, disk, enable, reset, step as stepOver, World, ran, left, run, View, view, views, OutsideNow, Outside, WithinNow, Within, Alike, Lent, House, Turn, worldOf, lent_by, act, acts, calls_of, viewsOf, Apartments}
+use Rattle.words.specs.Layout.{state_words, row_at, phase_of, level, config_at, map_words, mem_len_word, start_word, sectors_word, taken_word, answered_word, descs_word}
+use Rattle.device.specs.Turn.{cfg_of, state_of}
+use Rattle.hostiledisk.specs.Calls.{Called, untouched, is_broken, long_enough, stepped, stepped_on, hd_step}
+use Rattle.guarantees.specs.History.{Call, memory, disk, enable, reset, step as stepOver, World, ran, left, run, View, view, views, OutsideNow, Outside, WithinNow, Within, Alike, Lent, House, Turn, world_of, lent_by, act, acts, calls_of, views_of, Apartments}
 use Rattle.guarantees.proofs.Step.{by-step, wall-step}
 
 -- 8. Bytes of the backing slice outside this disk's range never change.
@@ -45,15 +45,15 @@ put-agree (x ∷ m₁) (y ∷ m₂) zero (b ∷ bs) zero l e = refl
 put-agree (x ∷ m₁) (y ∷ m₂) zero (b ∷ bs) (suc i) l e = put-agree m₁ m₂ zero bs i (omega arith) e
 
 stores-agree : (e : Effect) (d : ℕ) (b₁ b₂ : List ℕ) (i : ℕ) → length b₁ ≡ length b₂ → get_or b₁ i 0 ≡ get_or b₂ i 0
-    → get_or (shifted d (diskStores e) b₁) i 0 ≡ get_or (shifted d (diskStores e) b₂) i 0
-unfolding diskStores shifted
+    → get_or (shifted d (disk_stores e) b₁) i 0 ≡ get_or (shifted d (disk_stores e) b₂) i 0
+unfolding disk_stores shifted
 stores-agree nothing d b₁ b₂ i l h = h
 stores-agree (stores at bs) d b₁ b₂ i l h = put-agree b₁ b₂ (d + at) bs i l h
 stores-agree (answers k job) d b₁ b₂ i l h = h
 stores-agree publishes d b₁ b₂ i l h = h
 
-pub stores-length : (e : Effect) (d : ℕ) (b : List ℕ) → length (shifted d (diskStores e) b) ≡ length b
-unfolding diskStores shifted
+pub stores-length : (e : Effect) (d : ℕ) (b : List ℕ) → length (shifted d (disk_stores e) b) ≡ length b
+unfolding disk_stores shifted
 stores-length nothing d b = refl
 stores-length (stores at bs) d b = length-put b (d + at) bs
 stores-length (answers k job) d b = refl
@@ -73,29 +73,29 @@ module _ (In : ℕ → Type 0) (s mem b₁ b₂ chain stage : List ℕ) (l : len
   same-untouched : (n : ℕ) → Same In (untouched n s mem b₁ chain stage) (untouched n s mem b₂ chain stage)
   same-untouched n = record { seen = refl; long = l; inside = h }
 
-  same-stepped : ((i : ℕ) → get_or s startWord 0 ≤ i → i < get_or s startWord 0 + 512 * get_or s sectorsWord 0 → In i) → Same In (steppedOn s mem b₁ chain stage) (steppedOn s mem b₂ chain stage)
-  unfolding steppedOn stepped step stepWith configAt
+  same-stepped : ((i : ℕ) → get_or s start_word 0 ≤ i → i < get_or s start_word 0 + 512 * get_or s sectors_word 0 → In i) → Same In (stepped_on s mem b₁ chain stage) (stepped_on s mem b₂ chain stage)
+  unfolding stepped_on stepped step step_with config_at
   same-stepped c =
-      let p = phaseOf (rowAt s) in
-      let e = effect chain stage p (fetched (cfgOf (configAt s) (mapWords s)) (state_of (get_or s takenWord 0) (get_or s answeredWord 0) (get_or s descsWord 0) p) chain mem) in
-      let d : diskOf (configAt s).disk b₁ ≡ diskOf (configAt s).disk b₂ =
-      part-cong (get_or s startWord 0) (512 * get_or s sectorsWord 0) b₁ b₂ l (λ i u v. h i (c i u v)) in
+      let p = phase_of (row_at s) in
+      let e = effect chain stage p (fetched (cfg_of (config_at s) (map_words s)) (state_of (get_or s taken_word 0) (get_or s answered_word 0) (get_or s descs_word 0) p) chain mem) in
+      let d : disk_of (config_at s).disk b₁ ≡ disk_of (config_at s).disk b₂ =
+      part-cong (get_or s start_word 0) (512 * get_or s sectors_word 0) b₁ b₂ l (λ i u v. h i (c i u v)) in
       record {
         seen = rw d;
-        long = stores-length e (get_or s startWord 0) b₁ ∙ (l ∙ sym (stores-length e (get_or s startWord 0) b₂));
-        inside = λ i x. stores-agree e (get_or s startWord 0) b₁ b₂ i l (h i x);
+        long = stores-length e (get_or s start_word 0) b₁ ∙ (l ∙ sym (stores-length e (get_or s start_word 0) b₂));
+        inside = λ i x. stores-agree e (get_or s start_word 0) b₁ b₂ i l (h i x);
       }
 
-  same_step : ((i : ℕ) → get_or s startWord 0 ≤ i → i < get_or s startWord 0 + 512 * get_or s sectorsWord 0 → In i) → Same In (hdStep s mem b₁ chain stage) (hdStep s mem b₂ chain stage)
-  unfolding hdStep
+  same_step : ((i : ℕ) → get_or s start_word 0 ≤ i → i < get_or s start_word 0 + 512 * get_or s sectors_word 0 → In i) → Same In (hd_step s mem b₁ chain stage) (hd_step s mem b₂ chain stage)
+  unfolding hd_step
   same_step c =
       let u = same-untouched in
       rw l
-      (same-pick In (ltb (length s) stateWords) _ _ _ _ (u 4)
+      (same-pick In (ltb (length s) state_words) _ _ _ _ (u 4)
       (same-pick In (eqb (level s) 3) _ _ _ _
-      (same-pick In (isBroken (phaseOf (rowAt s))) _ _ _ _ (u 3)
-      (same-pick In (longEnough s (length mem) (length b₂) (length chain) (length stage)) _ _ _ _
-      (same-pick In (ready (get_or s memLenWord 0) chain (phaseOf (rowAt s))) _ _ _ _ (same-stepped c) (u 4)) (u 4)))
+      (same-pick In (is_broken (phase_of (row_at s))) _ _ _ _ (u 3)
+      (same-pick In (long_enough s (length mem) (length b₂) (length chain) (length stage)) _ _ _ _
+      (same-pick In (ready (get_or s mem_len_word 0) chain (phase_of (row_at s))) _ _ _ _ (same-stepped c) (u 4)) (u 4)))
       (u 4)))
 
 -- .. one call of any kind
@@ -139,21 +139,21 @@ outside_of In w (memory words m) i n o = tt
 outside_of In w (disk start sectors ro id backing) i n o = tt
 outside_of In w (enable size desc avail used chain stage start) i n o = tt
 outside_of In w reset i n o = tt
-outside_of In w (stepOver mem) i n o = go (ltb i (get_or w.state startWord 0)) refl (leb (get_or w.state startWord 0 + 512 * get_or w.state sectorsWord 0) i) refl
+outside_of In w (stepOver mem) i n o = go (ltb i (get_or w.state start_word 0)) refl (leb (get_or w.state start_word 0 + 512 * get_or w.state sectors_word 0) i) refl
   where
-    go : (a : Bool) → ltb i (get_or w.state startWord 0) ≡ a → (b : Bool) → leb (get_or w.state startWord 0 + 512 * get_or w.state sectorsWord 0) i ≡ b
-        → Apart i (get_or w.state startWord 0) (512 * get_or w.state sectorsWord 0)
-    go true t b u = below (ltb-true i (get_or w.state startWord 0) t)
-    go false t true u = above (leb-true (get_or w.state startWord 0 + 512 * get_or w.state sectorsWord 0) i u)
+    go : (a : Bool) → ltb i (get_or w.state start_word 0) ≡ a → (b : Bool) → leb (get_or w.state start_word 0 + 512 * get_or w.state sectors_word 0) i ≡ b
+        → Apart i (get_or w.state start_word 0) (512 * get_or w.state sectors_word 0)
+    go true t b u = below (ltb-true i (get_or w.state start_word 0) t)
+    go false t true u = above (leb-true (get_or w.state start_word 0 + 512 * get_or w.state sectors_word 0) i u)
     go false t false u =
-        absurd (n (o i (ltb-false i (get_or w.state startWord 0) t) (leb-false (get_or w.state startWord 0 + 512 * get_or w.state sectorsWord 0) i u)))
+        absurd (n (o i (ltb-false i (get_or w.state start_word 0) t) (leb-false (get_or w.state start_word 0 + 512 * get_or w.state sectors_word 0) i u)))
 
 -- the backing slice keeps its length
-length-stepped : (s mem backing chain stage : List ℕ) → length (steppedOn s mem backing chain stage).backing ≡ length backing
-unfolding steppedOn stepped step stepWith configAt
+length-stepped : (s mem backing chain stage : List ℕ) → length (stepped_on s mem backing chain stage).backing ≡ length backing
+unfolding stepped_on stepped step step_with config_at
 length-stepped s mem backing chain stage =
-    let p = phaseOf (rowAt s) in
-    stores-length (effect chain stage p (fetched (cfgOf (configAt s) (mapWords s)) (state_of (get_or s takenWord 0) (get_or s answeredWord 0) (get_or s descsWord 0) p) chain mem)) (get_or s startWord 0) backing
+    let p = phase_of (row_at s) in
+    stores-length (effect chain stage p (fetched (cfg_of (config_at s) (map_words s)) (state_of (get_or s taken_word 0) (get_or s answered_word 0) (get_or s descs_word 0) p) chain mem)) (get_or s start_word 0) backing
 
 length-call : (w : World) (c : Call) → length (ran w c).backing ≡ length w.backing
 unfolding ran
@@ -166,36 +166,36 @@ length-call w (stepOver mem) =
     (λ g. length-stepped w.state mem w.backing w.chain w.stage)
 
 -- what a call leaves of device k: its own call, or another's
-act-own : (h : House) (x : Turn) (k : ℕ) → eqb x.who k ≡ true → worldOf (act h x) k ≡ left (ran (worldOf h k) x.what)
+act-own : (h : House) (x : Turn) (k : ℕ) → eqb x.who k ≡ true → world_of (act h x) k ≡ left (ran (world_of h k) x.what)
 unfolding act
 act-own h x k t = let e : x.who ≡ k = eqb-true x.who k t in rw (t, e)
 
 act-other : (h : House) (x : Turn) (k : ℕ) → eqb x.who k ≡ false
-    → worldOf (act h x) k
-    ≡ record { state = (h.lent k).state; backing = (ran (worldOf h x.who) x.what).backing; chain = (h.lent k).chain; stage = (h.lent k).stage }
+    → world_of (act h x) k
+    ≡ record { state = (h.lent k).state; backing = (ran (world_of h x.who) x.what).backing; chain = (h.lent k).chain; stage = (h.lent k).stage }
 unfolding act
 act-other h x k t = rw t
 
 -- Each device sees and leaves what it would have alone: in any interleaving of the calls of any number of devices, over sets of bytes that are
 -- disjoint from device k's, device k's answers, states and guest memories are those of its own calls alone, and so are its bytes of the slice.
 pub sees-alone : (In : ℕ → ℕ → Type 0) (k : ℕ) → ((n : ℕ) → (n ≡ k → ⊥) → (i : ℕ) → In k i → In n i → ⊥) → (h : House) (w : World) (xs : List Turn)
-    → Alike (In k) (worldOf h k) w → Apartments In h xs
-    → (viewsOf k h xs ≡ views w (calls_of k xs)) × Alike (In k) (worldOf (acts h xs) k) (run w (calls_of k xs))
-unfolding viewsOf views calls_of acts run Apartments
+    → Alike (In k) (world_of h k) w → Apartments In h xs
+    → (views_of k h xs ≡ views w (calls_of k xs)) × Alike (In k) (world_of (acts h xs) k) (run w (calls_of k xs))
+unfolding views_of views calls_of acts run Apartments
 sees-alone In k d h w [] a o = (refl, a)
 sees-alone In k d h w (x ∷ xs) a o =
     go (eqb x.who k) refl (λ v b. sees-alone In k d (act h x) v xs b o.1)
   where
     go : (b : Bool) → eqb x.who k ≡ b
-        → ((v : World) → Alike (In k) (worldOf (act h x) k) v
-        → (viewsOf k (act h x) xs ≡ views v (calls_of k xs)) × Alike (In k) (worldOf (acts (act h x) xs) k) (run v (calls_of k xs)))
-        → (pick b (view (ran (worldOf h x.who) x.what) ∷ viewsOf k (act h x) xs) (viewsOf k (act h x) xs) ≡ views w (pick b (x.what ∷ calls_of k xs) (calls_of k xs)))
-        × Alike (In k) (worldOf (acts (act h x) xs) k) (run w (pick b (x.what ∷ calls_of k xs) (calls_of k xs)))
+        → ((v : World) → Alike (In k) (world_of (act h x) k) v
+        → (views_of k (act h x) xs ≡ views v (calls_of k xs)) × Alike (In k) (world_of (acts (act h x) xs) k) (run v (calls_of k xs)))
+        → (pick b (view (ran (world_of h x.who) x.what) ∷ views_of k (act h x) xs) (views_of k (act h x) xs) ≡ views w (pick b (x.what ∷ calls_of k xs) (calls_of k xs)))
+        × Alike (In k) (world_of (acts (act h x) xs) k) (run w (pick b (x.what ∷ calls_of k xs) (calls_of k xs)))
     go true t f =
         let e : x.who ≡ k = eqb-true x.who k t in
-        let s = same-call (In k) (worldOf h k) w x.what a (rw e at o.0) in
-        let r = f (left (ran w x.what)) (rw (act-own h x k t) (same_left (In k) (ran (worldOf h k) x.what) (ran w x.what) s)) in
-        let u : view (ran (worldOf h x.who) x.what) ≡ view (ran w x.what) = rw e s.seen in
+        let s = same-call (In k) (world_of h k) w x.what a (rw e at o.0) in
+        let r = f (left (ran w x.what)) (rw (act-own h x k t) (same_left (In k) (ran (world_of h k) x.what) (ran w x.what) s)) in
+        let u : view (ran (world_of h x.who) x.what) ≡ view (ran w x.what) = rw e s.seen in
         (cc (u, r.0), r.1)
     go false t f =
         f w
@@ -204,9 +204,9 @@ sees-alone In k d h w (x ∷ xs) a o =
           same-state = a.same-state;
           same-chain = a.same-chain;
           same-stage = a.same-stage;
-          same_length = length-call (worldOf h x.who) x.what ∙ a.same_length;
+          same_length = length-call (world_of h x.who) x.what ∙ a.same_length;
           same-inside = λ i p.
-              wall-call i (worldOf h x.who) x.what
-              (outside_of (In x.who) (worldOf h x.who) x.what i (λ q. d x.who (eqb-false x.who k t) i p q) o.0)
+              wall-call i (world_of h x.who) x.what
+              (outside_of (In x.who) (world_of h x.who) x.what i (λ q. d x.who (eqb-false x.who k t) i p q) o.0)
               ∙ a.same-inside i p;
         }))

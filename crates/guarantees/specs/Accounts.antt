@@ -1,7 +1,7 @@
 -- Accounts: which heads a history takes, answers and drops.
 use Rattle.std.specs.Prelude.{ℕ, Bool, true, false, List, [], ◌∷◌, ◌++◌, map, ltb, eqb, length, ◌≡◌}
 use Rattle.model.specs.Pick.{pick, both}
-use Rattle.words.specs.Layout.{stateWords, rowAt, phaseOf, level}
+use Rattle.words.specs.Layout.{state_words, row_at, phase_of, level}
 use Rattle.hostiledisk.specs.Calls.{Called}
 use Rattle.guarantees.specs.History.{Call, memory, disk, enable, reset, step, World, ran, left}
 use Rattle.model.specs.declared.Walk.{Walk}
@@ -21,8 +21,8 @@ held (Publish k got) = k.head ∷ []
 held (Broken reason head count at) = pick (eqb count 0) [] (head ∷ [])
 
 -- .. of a world; none where no queue is enabled
-unfoldable pub atHand : World → List ℕ
-atHand w = pick (ltb (length w.state) stateWords) [] (pick (eqb (level w.state) 3) (held (phaseOf (rowAt w.state))) [])
+unfoldable pub at_hand : World → List ℕ
+at_hand w = pick (ltb (length w.state) state_words) [] (pick (eqb (level w.state) 3) (held (phase_of (row_at w.state))) [])
 
 -- what becomes of a head
 pub data Fate : Type 0 where
@@ -60,24 +60,24 @@ taken w (memory words m) = []
 taken w (disk start sectors ro id backing) = []
 taken w (enable size desc avail used chain stage start) = []
 taken w reset = []
-taken w (step mem) = takes (phaseOf (rowAt w.state)) (phaseOf (rowAt (ran w (step mem)).state))
+taken w (step mem) = takes (phase_of (row_at w.state)) (phase_of (row_at (ran w (step mem)).state))
 
 -- a step that answers 2 answers a head; hd_memory and hd_reset drop what is at hand
 unfoldable pub fates : World → Call → List Fate
-fates w (memory words m) = pick (eqb (ran w (memory words m)).code 0) (map dropped (atHand w)) []
+fates w (memory words m) = pick (eqb (ran w (memory words m)).code 0) (map dropped (at_hand w)) []
 fates w (disk start sectors ro id backing) = []
 fates w (enable size desc avail used chain stage start) = []
-fates w reset = map dropped (atHand w)
-fates w (step mem) = pick (eqb (ran w (step mem)).code 2) (map answered (gives (phaseOf (rowAt w.state)))) []
+fates w reset = map dropped (at_hand w)
+fates w (step mem) = pick (eqb (ran w (step mem)).code 2) (map answered (gives (phase_of (row_at w.state)))) []
 
 -- .. of a history
-unfoldable pub takenIn : World → List Call → List ℕ
-takenIn w [] = []
-takenIn w (c ∷ cs) = taken w c ++ takenIn (left (ran w c)) cs
+unfoldable pub taken_in : World → List Call → List ℕ
+taken_in w [] = []
+taken_in w (c ∷ cs) = taken w c ++ taken_in (left (ran w c)) cs
 
-unfoldable pub fatesIn : World → List Call → List Fate
-fatesIn w [] = []
-fatesIn w (c ∷ cs) = fates w c ++ fatesIn (left (ran w c)) cs
+unfoldable pub fates_in : World → List Call → List Fate
+fates_in w [] = []
+fates_in w (c ∷ cs) = fates w c ++ fates_in (left (ran w c)) cs
 
 -- the step before was S6 of this request
 pub record AfterAnswer (p : Phase) (k : Walk) (got : ℕ) : Type 0 where

@@ -1,9 +1,9 @@
 -- The states that set-up and steps make: what is true of the request at hand, beyond what each call tests.
 use Rattle.std.specs.Prelude.{ℕ, zero, suc, ◌+◌, ◌-◌, ◌*◌, ◌≤◌, ◌<◌, true, List, ◌≡◌, get_or}
 use Rattle.model.specs.Memory.{Region, regions}
-use Rattle.words.specs.Layout.{mapWords, phaseOf, rowAt, sectorsWord, roWord, sizeWord, descAreaWord, availAreaWord, usedAreaWord}
+use Rattle.words.specs.Layout.{map_words, phase_of, row_at, sectors_word, ro_word, size_word, desc_area_word, avail_area_word, used_area_word}
 use Rattle.model.specs.Request.{fits}
-use Rattle.model.specs.Sane.{jobOk, refusedAt}
+use Rattle.model.specs.Sane.{job_ok, refused_at}
 use Rattle.model.proofs.Memory.{InOne}
 use Rattle.model.specs.declared.Walk.{Walk}
 use Rattle.model.specs.declared.Place.{Place}
@@ -43,9 +43,9 @@ Good rs q sectors chain (Chain k cur) = WalkGood rs q chain k × (cur < q)
 Good rs q sectors chain (Header k p got) = WalkGood rs q chain k × (k.reads < k.count) × (got < 16) × (16 ≤ k.r) × Next chain k p got
 Good rs q sectors chain (Payload k p s got) =
     WalkGood rs q chain k × (k.reads < k.count) × (16 < k.r) × (got < k.r - 16) × (fits (k.r - 16) s sectors ≡ true) × Next chain k p (16 + got)
-Good rs q sectors chain (Answer k job got) = WalkGood rs q chain k × (k.reads < k.count) × (got ≤ k.r) × (jobOk sectors k job ≡ true)
+Good rs q sectors chain (Answer k job got) = WalkGood rs q chain k × (k.reads < k.count) × (got ≤ k.r) × (job_ok sectors k job ≡ true)
 Good rs q sectors chain (Publish k got) = WalkGood rs q chain k × (k.reads < k.count) × (got ≤ k.r)
-Good rs q sectors chain (Broken reason head count at) = (1 ≤ reason) × (reason ≤ 8) × (head < q) × (count ≤ q + 1) × (refusedAt q count at ≡ true)
+Good rs q sectors chain (Broken reason head count at) = (1 ≤ reason) × (reason ≤ 8) × (head < q) × (count ≤ q + 1) × (refused_at q count at ≡ true)
 
 -- a payload is fetched for a disk that is not read-only
 unfoldable pub Open : ℕ → Phase → Type 0
@@ -65,8 +65,8 @@ pub record Area (rs : List Region) (at n : ℕ) : Type 0 where
 
 -- words of an enabled queue that set-up and steps made, beside the chain memory
 pub record Made (s chain : List ℕ) : Type 0 where
-  pub desc-area : Area (regions (mapWords s)) (get_or s descAreaWord 0) (16 * get_or s sizeWord 0)
-  pub avail-area : Area (regions (mapWords s)) (get_or s availAreaWord 0) (6 + 2 * get_or s sizeWord 0)
-  pub used-area : Area (regions (mapWords s)) (get_or s usedAreaWord 0) (6 + 8 * get_or s sizeWord 0)
-  pub good : Good (regions (mapWords s)) (get_or s sizeWord 0) (get_or s sectorsWord 0) chain (phaseOf (rowAt s))
-  pub open-disk : Open (get_or s roWord 0) (phaseOf (rowAt s))
+  pub desc-area : Area (regions (map_words s)) (get_or s desc_area_word 0) (16 * get_or s size_word 0)
+  pub avail-area : Area (regions (map_words s)) (get_or s avail_area_word 0) (6 + 2 * get_or s size_word 0)
+  pub used-area : Area (regions (map_words s)) (get_or s used_area_word 0) (6 + 8 * get_or s size_word 0)
+  pub good : Good (regions (map_words s)) (get_or s size_word 0) (get_or s sectors_word 0) chain (phase_of (row_at s))
+  pub open-disk : Open (get_or s ro_word 0) (phase_of (row_at s))

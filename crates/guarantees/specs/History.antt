@@ -2,15 +2,15 @@
 use Rattle.std.specs.Prelude.{ℕ, ◌+◌, ◌*◌, ◌≤◌, ◌<◌, List, [], ◌∷◌, ◌++◌, ◌≡◌, get_or, length, eqb, ltb, Bool, true, false}
 use Rattle.model.specs.Pick.{pick}
 use Rattle.model.proofs.Lists.{Apart}
-use Rattle.model.specs.Step.{Span, want, usedAt, writables, Store, diskStores, effect}
+use Rattle.model.specs.Step.{Span, want, used_at, writables, Store, disk_stores, effect}
 use Rattle.model.specs.Bytes.{part}
 use Rattle.model.specs.Sane.{ready}
-use Rattle.device.specs.Turn.{cfgOf}
-use Rattle.words.specs.Layout.{stateWords, rowAt, phaseOf, configAt, mapWords, level, memLenWord, startWord, sectorsWord, takenWord}
+use Rattle.device.specs.Turn.{cfg_of}
+use Rattle.words.specs.Layout.{state_words, row_at, phase_of, config_at, map_words, level, mem_len_word, start_word, sectors_word, taken_word}
 use Rattle.model.specs.declared.Queue.{Queue}
 use Rattle.model.specs.declared.Phase.{Phase}
 use Rattle.model.specs.declared.Phase.TheVariants.{Poll, Entry, Chain, Header, Payload, Answer, Publish, Broken}
-use Rattle.hostiledisk.specs.Calls.{Set, Called, hdMemory, hdDisk, hdEnableAt, hdReset, hdStep, isBroken, longEnough}
+use Rattle.hostiledisk.specs.Calls.{Set, Called, hd_memory, hd_disk, hd_enable_at, hd_reset, hd_step, is_broken, long_enough}
 
 -- a call; hd_enable is hd_enable_at with start 0. A step comes with the guest memory that it finds, whatever that holds.
 pub data Call : Type 0 where
@@ -28,16 +28,16 @@ pub record World : Type 0 where
   pub stage : List ℕ
 
 -- a set-up call sees and touches the state words alone
-abbrev pub setUp : World → Set → Called
-setUp w x = record { code = x.code; state = x.state; mem = []; backing = w.backing; chain = w.chain; stage = w.stage }
+abbrev pub set_up : World → Set → Called
+set_up w x = record { code = x.code; state = x.state; mem = []; backing = w.backing; chain = w.chain; stage = w.stage }
 
 -- what a call answers and leaves
 unfoldable pub ran : World → Call → Called
-ran w (memory words m) = setUp w (hdMemory w.state words m)
-ran w (disk start sectors ro id backing) = setUp w (hdDisk w.state start sectors ro id backing)
-ran w (enable size desc avail used chain stage start) = setUp w (hdEnableAt w.state size desc avail used chain stage start)
-ran w reset = setUp w (hdReset w.state)
-ran w (step mem) = hdStep w.state mem w.backing w.chain w.stage
+ran w (memory words m) = set_up w (hd_memory w.state words m)
+ran w (disk start sectors ro id backing) = set_up w (hd_disk w.state start sectors ro id backing)
+ran w (enable size desc avail used chain stage start) = set_up w (hd_enable_at w.state size desc avail used chain stage start)
+ran w reset = set_up w (hd_reset w.state)
+ran w (step mem) = hd_step w.state mem w.backing w.chain w.stage
 
 abbrev pub left : Called → World
 left o = record { state = o.state; backing = o.backing; chain = o.chain; stage = o.stage }
@@ -67,7 +67,7 @@ OutsideNow i w (memory words m) = Unit {0}
 OutsideNow i w (disk start sectors ro id backing) = Unit {0}
 OutsideNow i w (enable size desc avail used chain stage start) = Unit {0}
 OutsideNow i w reset = Unit {0}
-OutsideNow i w (step mem) = Apart i (get_or w.state startWord 0) (512 * get_or w.state sectorsWord 0)
+OutsideNow i w (step mem) = Apart i (get_or w.state start_word 0) (512 * get_or w.state sectors_word 0)
 
 unfoldable pub Outside : ℕ → World → List Call → Type 0
 Outside i w [] = Unit {0}
@@ -79,7 +79,7 @@ WithinNow In w (memory words m) = Unit {0}
 WithinNow In w (disk start sectors ro id backing) = Unit {0}
 WithinNow In w (enable size desc avail used chain stage start) = Unit {0}
 WithinNow In w reset = Unit {0}
-WithinNow In w (step mem) = (i : ℕ) → get_or w.state startWord 0 ≤ i → i < get_or w.state startWord 0 + 512 * get_or w.state sectorsWord 0 → In i
+WithinNow In w (step mem) = (i : ℕ) → get_or w.state start_word 0 ≤ i → i < get_or w.state start_word 0 + 512 * get_or w.state sectors_word 0 → In i
 
 unfoldable pub Within : (ℕ → Type 0) → World → List Call → Type 0
 Within In w [] = Unit {0}
@@ -109,8 +109,8 @@ pub record Turn : Type 0 where
   pub what : Call
 
 -- the world as device k has it
-abbrev pub worldOf : House → ℕ → World
-worldOf h k = record { state = (h.lent k).state; backing = h.backing; chain = (h.lent k).chain; stage = (h.lent k).stage }
+abbrev pub world_of : House → ℕ → World
+world_of h k = record { state = (h.lent k).state; backing = h.backing; chain = (h.lent k).chain; stage = (h.lent k).stage }
 
 abbrev pub lent_by : Called → Lent
 lent_by o = record { state = o.state; chain = o.chain; stage = o.stage }
@@ -118,8 +118,8 @@ lent_by o = record { state = o.state; chain = o.chain; stage = o.stage }
 unfoldable pub act : House → Turn → House
 act h x =
     record {
-      lent = λ (k : ℕ). pick (eqb x.who k) (lent_by (ran (worldOf h x.who) x.what)) (h.lent k);
-      backing = (ran (worldOf h x.who) x.what).backing;
+      lent = λ (k : ℕ). pick (eqb x.who k) (lent_by (ran (world_of h x.who) x.what)) (h.lent k);
+      backing = (ran (world_of h x.who) x.what).backing;
     }
 
 unfoldable pub acts : House → List Turn → House
@@ -131,18 +131,18 @@ unfoldable pub calls_of : ℕ → List Turn → List Call
 calls_of k [] = []
 calls_of k (x ∷ xs) = pick (eqb x.who k) (x.what ∷ calls_of k xs) (calls_of k xs)
 
-unfoldable pub viewsOf : ℕ → House → List Turn → List View
-viewsOf k h [] = []
-viewsOf k h (x ∷ xs) = pick (eqb x.who k) (view (ran (worldOf h x.who) x.what) ∷ viewsOf k (act h x) xs) (viewsOf k (act h x) xs)
+unfoldable pub views_of : ℕ → House → List Turn → List View
+views_of k h [] = []
+views_of k h (x ∷ xs) = pick (eqb x.who k) (view (ran (world_of h x.who) x.what) ∷ views_of k (act h x) xs) (views_of k (act h x) xs)
 
 -- each device's range lies within the device's own set, whenever it makes a step
 unfoldable pub Apartments : (ℕ → ℕ → Type 0) → House → List Turn → Type 0
 Apartments In h [] = Unit {0}
-Apartments In h (x ∷ xs) = WithinNow (In x.who) (worldOf h x.who) x.what × Apartments In (act h x) xs
+Apartments In h (x ∷ xs) = WithinNow (In x.who) (world_of h x.who) x.what × Apartments In (act h x) xs
 
 -- the one range of guest memory that a step on these words wants
 abbrev pub wanted : List ℕ → List ℕ → Span
-wanted s chain = want (cfgOf (configAt s) (mapWords s)) (get_or s takenWord 0) chain (phaseOf (rowAt s))
+wanted s chain = want (cfg_of (config_at s) (map_words s)) (get_or s taken_word 0) chain (phase_of (row_at s))
 
 -- the ranges of guest memory that a step may write: writable buffers of the chain at hand and the used entry; or used idx
 unfoldable pub touched : Queue → ℕ → List ℕ → Phase → List Span
@@ -151,7 +151,7 @@ touched q answered chain Entry = []
 touched q answered chain (Chain k cur) = []
 touched q answered chain (Header k p got) = []
 touched q answered chain (Payload k p s got) = []
-touched q answered chain (Answer k job got) = record { at = usedAt q answered; len = 8 } ∷ writables chain k
+touched q answered chain (Answer k job got) = record { at = used_at q answered; len = 8 } ∷ writables chain k
 touched q answered chain (Publish k got) = record { at = q.used + 2; len = 2 } ∷ []
 touched q answered chain (Broken reason head count at) = []
 
@@ -179,19 +179,19 @@ written w (disk start sectors ro id backing) = []
 written w (enable size desc avail used chain stage start) = []
 written w reset = []
 written w (step mem) =
-    pick (ltb (length w.state) stateWords) []
+    pick (ltb (length w.state) state_words) []
     (pick (eqb (level w.state) 3)
-    (pick (isBroken (phaseOf (rowAt w.state))) []
-    (pick (longEnough w.state (length mem) (length w.backing) (length w.chain) (length w.stage))
-    (pick (ready (get_or w.state memLenWord 0) w.chain (phaseOf (rowAt w.state)))
-    (diskStores (effect w.chain w.stage (phaseOf (rowAt w.state)) (part (wanted w.state w.chain).at (wanted w.state w.chain).len mem)))
+    (pick (is_broken (phase_of (row_at w.state))) []
+    (pick (long_enough w.state (length mem) (length w.backing) (length w.chain) (length w.stage))
+    (pick (ready (get_or w.state mem_len_word 0) w.chain (phase_of (row_at w.state)))
+    (disk_stores (effect w.chain w.stage (phase_of (row_at w.state)) (part (wanted w.state w.chain).at (wanted w.state w.chain).len mem)))
     [])
     []))
     [])
 
-unfoldable pub writtenIn : World → List Call → List Store
-writtenIn w [] = []
-writtenIn w (c ∷ cs) = written w c ++ writtenIn (left (ran w c)) cs
+unfoldable pub written_in : World → List Call → List Store
+written_in w [] = []
+written_in w (c ∷ cs) = written w c ++ written_in (left (ran w c)) cs
 
 -- the disk is the n bytes from d on, whenever a step is made
 unfoldable pub DiskNow : ℕ → ℕ → World → Call → Type 0
@@ -199,7 +199,7 @@ DiskNow d n w (memory words m) = Unit {0}
 DiskNow d n w (disk start sectors ro id backing) = Unit {0}
 DiskNow d n w (enable size desc avail used chain stage start) = Unit {0}
 DiskNow d n w reset = Unit {0}
-DiskNow d n w (step mem) = (get_or w.state startWord 0 ≡ d) × (512 * get_or w.state sectorsWord 0 ≡ n)
+DiskNow d n w (step mem) = (get_or w.state start_word 0 ≡ d) × (512 * get_or w.state sectors_word 0 ≡ n)
 
 unfoldable pub DiskIs : ℕ → ℕ → World → List Call → Type 0
 DiskIs d n w [] = Unit {0}
@@ -210,6 +210,6 @@ unfoldable pub steps : List (List ℕ) → List Call
 steps [] = []
 steps (m ∷ ms) = step m ∷ steps ms
 
-unfoldable pub answersIn : World → List (List ℕ) → ℕ
-answersIn w [] = 0
-answersIn w (m ∷ ms) = pick (eqb (ran w (step m)).code 2) 1 0 + answersIn (left (ran w (step m))) ms
+unfoldable pub answers_in : World → List (List ℕ) → ℕ
+answers_in w [] = 0
+answers_in w (m ∷ ms) = pick (eqb (ran w (step m)).code 2) 1 0 + answers_in (left (ran w (step m))) ms

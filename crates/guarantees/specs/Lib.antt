@@ -1,5 +1,5 @@
 pub mod History
 pub mod Good
 pub mod Accounts
-pub mod Contracts
+pub mod Contracted
 pub mod Follow

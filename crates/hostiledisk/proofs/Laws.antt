@@ -8,31 +8,31 @@ use lib.Dec.{leb, ltb, eqb}
 use lib.ListN.{get_or, length}
 use borrow.Author.Tests.{eqb-true, leb-true}
 use Rattle.model.specs.Pick.{pick, both}
-use Rattle.model.specs.Memory.{regions, sound, regionsMax}
-use Rattle.model.specs.Request.{diskCode}
+use Rattle.model.specs.Memory.{regions, sound, regions_max}
+use Rattle.model.specs.Request.{disk_code}
 use Rattle.model.specs.Sane.{sane, ready}
 use Rattle.model.proofs.Tests.{told, both-split}
 use Rattle.device.specs.Turn.{Fit}
-use Rattle.words.specs.Layout.{mapWords, phaseOf, rowAt, configAt, memoryOk, diskOk, queueOk, tagsOk, phaseOk, enabledOk, level, levelWord, memLenWord, regionsWord, startWord, sectorsWord, backingLenWord, sizeWord, chainLenWord, takenWord, answeredWord, tagWord, aWord}
+use Rattle.words.specs.Layout.{map_words, phase_of, row_at, config_at, memory_ok, disk_ok, queue_ok, tags_ok, phase_ok, enabled_ok, level, level_word, mem_len_word, regions_word, start_word, sectors_word, backing_len_word, size_word, chain_len_word, taken_word, answered_word, tag_word, a_word}
 use Rattle.words.proofs.Laws.{QueueOk, queue-ok}
-use Rattle.hostiledisk.specs.Calls.{longEnough, Going, StepIs, untouched}
+use Rattle.hostiledisk.specs.Calls.{long_enough, Going, StepIs, untouched}
 use Rattle.model.specs.declared.Phase.{Phase}
 
 pub record MemoryOk (s : List ℕ) : Type 0 where
-  pub some : 1 ≤ get_or s regionsWord 0
-  pub few : get_or s regionsWord 0 ≤ regionsMax
-  pub sound-map : sound (get_or s memLenWord 0) (regions (mapWords s)) ≡ true
+  pub some : 1 ≤ get_or s regions_word 0
+  pub few : get_or s regions_word 0 ≤ regions_max
+  pub sound-map : sound (get_or s mem_len_word 0) (regions (map_words s)) ≡ true
 
-pub memory-ok : (s : List ℕ) → memoryOk s ≡ true → MemoryOk s
-unfolding memoryOk
+pub memory-ok : (s : List ℕ) → memory_ok s ≡ true → MemoryOk s
+unfolding memory_ok
 memory-ok s e =
-    let a = both-split (leb 1 (get_or s regionsWord 0)) _ e in
-    let b = both-split (leb (get_or s regionsWord 0) regionsMax) _ a.1 in
+    let a = both-split (leb 1 (get_or s regions_word 0)) _ e in
+    let b = both-split (leb (get_or s regions_word 0) regions_max) _ a.1 in
     record { some = omega told; few = omega told; sound-map = b.1 }
 
 -- a disk that set-up accepted lies in the backing slice
-disk-in : (start sectors backing : ℕ) → diskCode start sectors backing ≡ 0 → start + 512 * sectors ≤ backing
-unfolding diskCode
+disk-in : (start sectors backing : ℕ) → disk_code start sectors backing ≡ 0 → start + 512 * sectors ≤ backing
+unfolding disk_code
 disk-in start sectors backing e = go (both (leb 1 sectors) (leb sectors 4294967296)) (leb (start + 512 * sectors) backing) refl e
   where
     go : (a b : Bool) → leb (start + 512 * sectors) backing ≡ b → ◌≡◌ {A = ℕ} (pick a (pick b 0 30) 29) 0 → start + 512 * sectors ≤ backing
@@ -57,39 +57,39 @@ tower-two : (a b c d e f : Bool) → tower a b c d e f ≡ 2 → a ≡ true
 tower-two false b c d e f h = absurd (omega arith)
 tower-two true b c d e f h = refl
 
-pub level-two : (s : List ℕ) → level s ≡ 2 → memoryOk s ≡ true
+pub level-two : (s : List ℕ) → level s ≡ 2 → memory_ok s ≡ true
 unfolding level
-level-two s h = tower-two (memoryOk s) (eqb (get_or s levelWord 0) 1) (diskOk s) (eqb (get_or s levelWord 0) 2) (eqb (get_or s levelWord 0) 3) (enabledOk s) h
+level-two s h = tower-two (memory_ok s) (eqb (get_or s level_word 0) 1) (disk_ok s) (eqb (get_or s level_word 0) 2) (eqb (get_or s level_word 0) 3) (enabled_ok s) h
 
 pub record Enabled (s : List ℕ) : Type 0 where
   pub memory : MemoryOk s
-  pub disk-inside : get_or s startWord 0 + 512 * get_or s sectorsWord 0 ≤ get_or s backingLenWord 0
+  pub disk-inside : get_or s start_word 0 + 512 * get_or s sectors_word 0 ≤ get_or s backing_len_word 0
   pub queue : QueueOk s
-  pub phase : sane (get_or s sizeWord 0) (get_or s sectorsWord 0) (phaseOf (rowAt s)) ≡ true
+  pub phase : sane (get_or s size_word 0) (get_or s sectors_word 0) (phase_of (row_at s)) ≡ true
 
 pub level-three : (s : List ℕ) → level s ≡ 3 → Enabled s
-unfolding level diskOk enabledOk phaseOk
+unfolding level disk_ok enabled_ok phase_ok
 level-three s h =
-    let t = tower-three (memoryOk s) (eqb (get_or s levelWord 0) 1) (diskOk s) (eqb (get_or s levelWord 0) 2) (eqb (get_or s levelWord 0) 3) (enabledOk s) h in
-    let d = both-split (eqb (diskCode (get_or s startWord 0) (get_or s sectorsWord 0) (get_or s backingLenWord 0)) 0) _ t.1 in
-    let e = both-split (queueOk s) _ t.2 in
-    let p = both-split (tagsOk (get_or s tagWord 0) (get_or s aWord 0)) _ e.1 in
+    let t = tower-three (memory_ok s) (eqb (get_or s level_word 0) 1) (disk_ok s) (eqb (get_or s level_word 0) 2) (eqb (get_or s level_word 0) 3) (enabled_ok s) h in
+    let d = both-split (eqb (disk_code (get_or s start_word 0) (get_or s sectors_word 0) (get_or s backing_len_word 0)) 0) _ t.1 in
+    let e = both-split (queue_ok s) _ t.2 in
+    let p = both-split (tags_ok (get_or s tag_word 0) (get_or s a_word 0)) _ e.1 in
     record {
       memory = memory-ok s t.0;
-      disk-inside = disk-in (get_or s startWord 0) (get_or s sectorsWord 0) (get_or s backingLenWord 0) (eqb-true (diskCode (get_or s startWord 0) (get_or s sectorsWord 0) (get_or s backingLenWord 0)) 0 d.0);
+      disk-inside = disk-in (get_or s start_word 0) (get_or s sectors_word 0) (get_or s backing_len_word 0) (eqb-true (disk_code (get_or s start_word 0) (get_or s sectors_word 0) (get_or s backing_len_word 0)) 0 d.0);
       queue = queue-ok s e.0;
       phase = p.1;
     }
 
 -- what a step stands on
 pub fit_of : (s : List ℕ) (p : Phase) (mem backing : ℕ) (chain : List ℕ) (stage : ℕ) → Going s p mem backing chain stage
-    → Fit (configAt s) (get_or s takenWord 0) (get_or s answeredWord 0) p (mapWords s) mem backing chain stage
-unfolding configAt longEnough
+    → Fit (config_at s) (get_or s taken_word 0) (get_or s answered_word 0) p (map_words s) mem backing chain stage
+unfolding config_at long_enough
 fit_of s p mem backing chain stage g =
     let e = level-three s g.enabled in
-    let a = both-split (leb (get_or s memLenWord 0) mem) _ g.slices-long in
-    let b = both-split (leb (get_or s backingLenWord 0) backing) _ a.1 in
-    let c = both-split (leb (get_or s chainLenWord 0) (length chain)) _ b.1 in
+    let a = both-split (leb (get_or s mem_len_word 0) mem) _ g.slices-long in
+    let b = both-split (leb (get_or s backing_len_word 0) backing) _ a.1 in
+    let c = both-split (leb (get_or s chain_len_word 0) (length chain)) _ b.1 in
     let q = e.queue in
     let i = e.disk-inside in
     record {

@@ -2,17 +2,17 @@
 // phase alone, tests them, does the step's work and saves what it changes; words that steps don't make are refused with 4.
 // All are lent every slice, though most use few: so each has the contract of `hd_step`, which says of each slice what becomes of it.
 ghost use Rattle.std.specs.Prelude.{◌≡◌, ◌≤◌, length};
-ghost use Rattle.model.specs.Step.{codeAfter};
-ghost use Rattle.words.specs.Layout.{stateWords, kept};
-ghost use Rattle.hostiledisk.specs.Calls.{hdStep, Framed, StepIs};
+ghost use Rattle.model.specs.Step.{code_after};
+ghost use Rattle.words.specs.Layout.{state_words, kept};
+ghost use Rattle.hostiledisk.specs.Calls.{hd_step, Framed, StepIs};
 
 use model::Phase;
 use words::at;
 
 // A step that publishes nothing: the counters stay, and the answer goes by the phase.
 fn finish(state: &mut [usize], p: Phase) -> usize
-    requires { stateWords ≤ length state.old }
-    ensures value { result ≡ codeAfter p }
+    requires { state_words ≤ length state.old }
+    ensures value { result ≡ code_after p }
     ensures state_after { state.new ≡ kept state.old p }
 {
     words::save_phase(state, p);
@@ -22,7 +22,7 @@ fn finish(state: &mut [usize], p: Phase) -> usize
 // S1
 pub fn poll(state: &mut [usize], mem: &[u8], backing: &[u8], chain: &[usize], stage: &[u8]) -> usize
     requires { Framed state.old 1 (length mem.now) (length backing.now) (length chain.now) (length stage.now) }
-    ensures { StepIs (hdStep state.old mem.now backing.now chain.now stage.now) result state.new mem.now backing.now chain.now stage.now }
+    ensures { StepIs (hd_step state.old mem.now backing.now chain.now stage.now) result state.new mem.now backing.now chain.now stage.now }
 {
     let q = words::queue_at(state);
     let p = device::poll(q, state[at::TAKEN], mem);
@@ -38,7 +38,7 @@ pub fn entry(
     stage: &[u8],
 ) -> usize
     requires { Framed state.old 2 (length mem.now) (length backing.now) (length chain.now) (length stage.now) }
-    ensures { StepIs (hdStep state.old mem.now backing.now chain.now stage.now) result state.new mem.now backing.now chain.now stage.now }
+    ensures { StepIs (hd_step state.old mem.now backing.now chain.now stage.now) result state.new mem.now backing.now chain.now stage.now }
 {
     let q = words::queue_at(state);
     let p = device::entry(q, state[at::TAKEN], mem);
@@ -58,7 +58,7 @@ pub fn descriptor(
     stage: &[u8],
 ) -> usize
     requires { Framed state.old 3 (length mem.now) (length backing.now) (length chain.old) (length stage.now) }
-    ensures { StepIs (hdStep state.old mem.now backing.now chain.old stage.now) result state.new mem.now backing.now chain.new stage.now }
+    ensures { StepIs (hd_step state.old mem.now backing.now chain.old stage.now) result state.new mem.now backing.now chain.new stage.now }
 {
     let k = words::walk_at(state);
     let cur = state[at::A];
@@ -96,7 +96,7 @@ pub fn header(
     stage: &mut [u8],
 ) -> usize
     requires { Framed state.old 4 (length mem.now) (length backing.now) (length chain.now) (length stage.old) }
-    ensures { StepIs (hdStep state.old mem.now backing.now chain.now stage.old) result state.new mem.now backing.now chain.now stage.new }
+    ensures { StepIs (hd_step state.old mem.now backing.now chain.now stage.old) result state.new mem.now backing.now chain.now stage.new }
 {
     let k = words::walk_at(state);
     let at = words::place_at(state);
@@ -121,7 +121,7 @@ pub fn payload(
     stage: &mut [u8],
 ) -> usize
     requires { Framed state.old 5 (length mem.now) (length backing.old) (length chain.now) (length stage.old) }
-    ensures { StepIs (hdStep state.old mem.now backing.old chain.now stage.old) result state.new mem.now backing.new chain.now stage.new }
+    ensures { StepIs (hd_step state.old mem.now backing.old chain.now stage.old) result state.new mem.now backing.new chain.now stage.new }
 {
     let k = words::walk_at(state);
     let at = words::place_at(state);
@@ -151,7 +151,7 @@ pub fn answer(
     stage: &[u8],
 ) -> usize
     requires { Framed state.old 6 (length mem.old) (length backing.now) (length chain.now) (length stage.now) }
-    ensures { StepIs (hdStep state.old mem.old backing.now chain.now stage.now) result state.new mem.new backing.now chain.now stage.now }
+    ensures { StepIs (hd_step state.old mem.old backing.now chain.now stage.now) result state.new mem.new backing.now chain.now stage.now }
 {
     if 5 < state[at::A] {
         return 4;
@@ -193,7 +193,7 @@ pub fn publish(
     stage: &[u8],
 ) -> usize
     requires { Framed state.old 7 (length mem.old) (length backing.now) (length chain.now) (length stage.now) }
-    ensures { StepIs (hdStep state.old mem.old backing.now chain.now stage.now) result state.new mem.new backing.now chain.now stage.now }
+    ensures { StepIs (hd_step state.old mem.old backing.now chain.now stage.now) result state.new mem.new backing.now chain.now stage.now }
 {
     let k = words::walk_at(state);
     let got = state[at::D];

@@ -1,8 +1,8 @@
 // The C interface. No function has a `requires`: whatever the numbers, lengths and contents are, the call returns,
 // stays inside the slices and answers a code. A word is a `usize`, which is 64 bits: uint64_t in C.
 ghost use Rattle.std.specs.Prelude.{◌≡◌, true, ◌≤◌, length};
-ghost use Rattle.hostiledisk.specs.Calls.{chainWords, hdMemory, hdDisk, hdEnableAt, hdReset, hdStatus, hdStep, StepIs};
-ghost use Rattle.words.specs.Layout.{stateWords};
+ghost use Rattle.hostiledisk.specs.Calls.{chain_words, hd_memory, hd_disk, hd_enable_at, hd_reset, hd_status, hd_step, StepIs};
+ghost use Rattle.words.specs.Layout.{state_words};
 
 use words::at;
 
@@ -29,7 +29,7 @@ pub const STATE_WORDS: usize = at::STATE_WORDS;
 // Words of state that the host lends for a device.
 #[unsafe(no_mangle)]
 pub extern "C" fn hd_state_words() -> usize
-    ensures { result ≡ stateWords }
+    ensures { result ≡ state_words }
 {
     STATE_WORDS
 }
@@ -37,7 +37,7 @@ pub extern "C" fn hd_state_words() -> usize
 // Words of chain memory for a queue of this size: two for each descriptor.
 #[unsafe(no_mangle)]
 pub extern "C" fn hd_chain_words(queue_size: usize) -> usize
-    ensures { result ≡ chainWords queue_size }
+    ensures { result ≡ chain_words queue_size }
 {
     if ring::size_ok(queue_size) {
         return 2 * queue_size;
@@ -55,8 +55,8 @@ pub extern "C" fn hd_stage_bytes() -> usize
 
 #[unsafe(no_mangle)]
 pub extern "C" fn hd_memory(state: &mut [usize], map: &[usize], mem_len: usize) -> usize
-    ensures value { result ≡ (hdMemory state.old map.now mem_len).code }
-    ensures state_after { state.new ≡ (hdMemory state.old map.now mem_len).state }
+    ensures value { result ≡ (hd_memory state.old map.now mem_len).code }
+    ensures state_after { state.new ≡ (hd_memory state.old map.now mem_len).state }
 {
     if state.len() < STATE_WORDS {
         return 40;
@@ -78,8 +78,8 @@ pub extern "C" fn hd_disk(
     id: &[u8],
     backing_len: usize,
 ) -> usize
-    ensures value { result ≡ (hdDisk state.old start sectors read_only id.now backing_len).code }
-    ensures state_after { state.new ≡ (hdDisk state.old start sectors read_only id.now backing_len).state }
+    ensures value { result ≡ (hd_disk state.old start sectors read_only id.now backing_len).code }
+    ensures state_after { state.new ≡ (hd_disk state.old start sectors read_only id.now backing_len).state }
 {
     if state.len() < STATE_WORDS {
         return 40;
@@ -113,8 +113,8 @@ pub extern "C" fn hd_enable_at(
     stage_len: usize,
     start: usize,
 ) -> usize
-    ensures value { result ≡ (hdEnableAt state.old size desc avail used chain_len stage_len start).code }
-    ensures state_after { state.new ≡ (hdEnableAt state.old size desc avail used chain_len stage_len start).state }
+    ensures value { result ≡ (hd_enable_at state.old size desc avail used chain_len stage_len start).code }
+    ensures state_after { state.new ≡ (hd_enable_at state.old size desc avail used chain_len stage_len start).state }
 {
     if state.len() < STATE_WORDS {
         return 40;
@@ -136,16 +136,16 @@ pub extern "C" fn hd_enable(
     chain_len: usize,
     stage_len: usize,
 ) -> usize
-    ensures value { result ≡ (hdEnableAt state.old size desc avail used chain_len stage_len 0).code }
-    ensures state_after { state.new ≡ (hdEnableAt state.old size desc avail used chain_len stage_len 0).state }
+    ensures value { result ≡ (hd_enable_at state.old size desc avail used chain_len stage_len 0).code }
+    ensures state_after { state.new ≡ (hd_enable_at state.old size desc avail used chain_len stage_len 0).state }
 {
     hd_enable_at(state, size, desc, avail, used, chain_len, stage_len, 0)
 }
 
 #[unsafe(no_mangle)]
 pub extern "C" fn hd_reset(state: &mut [usize]) -> usize
-    ensures value { result ≡ (hdReset state.old).code }
-    ensures state_after { state.new ≡ (hdReset state.old).state }
+    ensures value { result ≡ (hd_reset state.old).code }
+    ensures state_after { state.new ≡ (hd_reset state.old).state }
 {
     if state.len() < STATE_WORDS {
         return 40;
@@ -159,8 +159,8 @@ pub extern "C" fn hd_reset(state: &mut [usize]) -> usize
 
 #[unsafe(no_mangle)]
 pub extern "C" fn hd_status(state: &[usize], out: &mut [usize]) -> usize
-    ensures value { result ≡ (hdStatus state.now out.old).code }
-    ensures out_after { out.new ≡ (hdStatus state.now out.old).state }
+    ensures value { result ≡ (hd_status state.now out.old).code }
+    ensures out_after { out.new ≡ (hd_status state.now out.old).state }
 {
     if state.len() < STATE_WORDS {
         return 40;
@@ -181,7 +181,7 @@ pub extern "C" fn hd_step(
     chain: &mut [usize],
     stage: &mut [u8],
 ) -> usize
-    ensures { StepIs (hdStep state.old mem.old backing.old chain.old stage.old) result state.new mem.new backing.new chain.new stage.new }
+    ensures { StepIs (hd_step state.old mem.old backing.old chain.old stage.old) result state.new mem.new backing.new chain.new stage.new }
 {
     if state.len() < STATE_WORDS {
         return 4;

@@ -1,18 +1,18 @@
 // What set-up writes into the lent words, once nothing is left to refuse.
 ghost use Rattle.std.specs.Prelude.{◌≡◌, true, ◌∷◌, ◌+◌, ◌*◌, ◌/◌, ◌≤◌, length};
 ghost use Rattle.model.specs.Bytes.{put};
-ghost use Rattle.model.specs.Memory.{regions, regionsMax};
+ghost use Rattle.model.specs.Memory.{regions, regions_max};
 ghost use Rattle.model.specs.Ring.{areas};
-ghost use Rattle.words.specs.Layout.{stateWords, memoryOk, mapWords};
-ghost use Rattle.hostiledisk.specs.Calls.{flag, memorySet, diskSet, queueSet, enabledWith};
+ghost use Rattle.words.specs.Layout.{state_words, memory_ok, map_words};
+ghost use Rattle.hostiledisk.specs.Calls.{flag, memory_set, disk_set, queue_set, enabled_with};
 
 use model::{Areas, Phase, Queue};
 use words::at;
 
 pub fn note_memory(state: &mut [usize], map: &[usize], m: usize)
-    requires state_words_in_bounds { stateWords ≤ length state.old }
-    requires map_len_bound { length map.now ≤ 3 * regionsMax }
-    ensures { state.new ≡ memorySet state.old map.now m }
+    requires state_words_in_bounds { state_words ≤ length state.old }
+    requires map_len_bound { length map.now ≤ 3 * regions_max }
+    ensures { state.new ≡ memory_set state.old map.now m }
 {
     state[at::LEVEL] = 1;
     state[at::MEM_LEN] = m;
@@ -37,9 +37,9 @@ pub fn note_disk(
     id: &[u8],
     backing: usize,
 )
-    requires state_words_in_bounds { stateWords ≤ length state.old }
+    requires state_words_in_bounds { state_words ≤ length state.old }
     requires id_len { length id.now ≡ 20 }
-    ensures { state.new ≡ diskSet state.old start sectors ro id.now backing }
+    ensures { state.new ≡ disk_set state.old start sectors ro id.now backing }
 {
     state[at::LEVEL] = 2;
     state[at::START] = start;
@@ -53,9 +53,9 @@ pub fn note_disk(
 
 // Where the areas of a queue would lie in the registered memory.
 pub fn areas(state: &[usize], size: usize, desc: usize, avail: usize, used: usize) -> Areas
-    requires state_words_in_bounds { stateWords ≤ length state.now }
-    requires state_value { memoryOk state.now ≡ true }
-    ensures { result ≡ areas (regions (mapWords state.now)) size desc avail used }
+    requires state_words_in_bounds { state_words ≤ length state.now }
+    requires state_value { memory_ok state.now ≡ true }
+    ensures { result ≡ areas (regions (map_words state.now)) size desc avail used }
 {
     let n = state[at::REGIONS];
     let end = at::MAP + 3 * n;
@@ -70,8 +70,8 @@ pub fn areas(state: &[usize], size: usize, desc: usize, avail: usize, used: usiz
 }
 
 fn note_queue(state: &mut [usize], q: Queue, chain: usize, stage: usize, start: usize)
-    requires { stateWords ≤ length state.old }
-    ensures { state.new ≡ queueSet state.old q chain stage start }
+    requires { state_words ≤ length state.old }
+    ensures { state.new ≡ queue_set state.old q chain stage start }
 {
     state[at::LEVEL] = 3;
     state[at::SIZE] = q.size;
@@ -84,9 +84,9 @@ fn note_queue(state: &mut [usize], q: Queue, chain: usize, stage: usize, start: 
 }
 
 pub fn enable(state: &mut [usize], chain: usize, stage: usize, start: usize, found: Areas) -> usize
-    requires { stateWords ≤ length state.old }
-    ensures value { result ≡ (enabledWith state.old chain stage start found).code }
-    ensures state_after { state.new ≡ (enabledWith state.old chain stage start found).state }
+    requires { state_words ≤ length state.old }
+    ensures value { result ≡ (enabled_with state.old chain stage start found).code }
+    ensures state_after { state.new ≡ (enabled_with state.old chain stage start found).state }
 {
     match found {
         Areas::Refused(code) => code,

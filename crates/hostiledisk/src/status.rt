@@ -3,8 +3,8 @@ ghost use Rattle.std.specs.Prelude.{◌≡◌, true, [], ◌++◌, ◌≤◌, le
 ghost use Rattle.model.specs.Pick.{pick};
 ghost use Rattle.model.specs.Bytes.{put};
 ghost use Rattle.model.specs.Sane.{sane};
-ghost use Rattle.hostiledisk.specs.Calls.{seen, seenOf, shown, shownMore, statusWords};
-ghost use Rattle.words.specs.Layout.{stateWords};
+ghost use Rattle.hostiledisk.specs.Calls.{seen, seen_of, shown, shown_more, status_words};
+ghost use Rattle.words.specs.Layout.{state_words};
 
 use crate::Seen;
 use model::{Phase, Walk};
@@ -31,7 +31,7 @@ fn at_hand(step: usize, k: Walk, bytes: usize) -> Seen
 
 fn seen_of(q: usize, sectors: usize, p: Phase) -> Seen
     requires { sane q sectors p ≡ true }
-    ensures { result ≡ seenOf p }
+    ensures { result ≡ seen_of p }
 {
     match p {
         Phase::Poll => seen(0, 1, 0, 0, 0, 65536),
@@ -62,7 +62,7 @@ fn show(out: &mut [usize], enabled: usize, taken: usize, answered: usize, x: See
 // Two words more, where there is room for both (DEV-12).
 fn show_all(out: &mut [usize], enabled: usize, taken: usize, answered: usize, descs: usize, x: Seen)
     requires { 8 ≤ length out.old }
-    ensures { out.new ≡ put out.old 0 (shown enabled taken answered x ++ pick (leb 10 (length out.old)) (shownMore descs x) []) }
+    ensures { out.new ≡ put out.old 0 (shown enabled taken answered x ++ pick (leb 10 (length out.old)) (shown_more descs x) []) }
 {
     show(out, enabled, taken, answered, x);
     if 10 <= out.len() {
@@ -72,9 +72,9 @@ fn show_all(out: &mut [usize], enabled: usize, taken: usize, answered: usize, de
 }
 
 pub fn write(state: &[usize], out: &mut [usize])
-    requires state_words_in_bounds { stateWords ≤ length state.now }
+    requires state_words_in_bounds { state_words ≤ length state.now }
     requires in_bounds { 8 ≤ length out.old }
-    ensures { out.new ≡ put out.old 0 (statusWords (leb 10 (length out.old)) state.now) }
+    ensures { out.new ≡ put out.old 0 (status_words (leb 10 (length out.old)) state.now) }
 {
     if words::level(state) == 3 {
         let p = words::phase_of(words::row_at(state));

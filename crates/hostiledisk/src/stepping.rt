@@ -1,16 +1,16 @@
 // The tests before a step that are the same for each phase, and the way to the phase's own.
 ghost use Rattle.std.specs.Prelude.{◌≡◌, true, ◌≤◌, ◌<◌, length};
-ghost use Rattle.words.specs.Layout.{stateWords, framed};
-ghost use Rattle.hostiledisk.specs.Calls.{longEnough, brokenCode, hdStep, Framed, StepIs};
+ghost use Rattle.words.specs.Layout.{state_words, framed};
+ghost use Rattle.hostiledisk.specs.Calls.{long_enough, broken_code, hd_step, Framed, StepIs};
 
 use crate::arms;
 use words::at;
 
 // A queue that steps have broken answers 3, and stays as it is.
 pub fn broken(state: &[usize]) -> usize
-    requires state_words_in_bounds { stateWords ≤ length state.now }
+    requires state_words_in_bounds { state_words ≤ length state.now }
     requires state_value { framed state.now ≡ true }
-    ensures { result ≡ brokenCode state.now }
+    ensures { result ≡ broken_code state.now }
 {
     if state[at::TAG] == 8 {
         if sane::broken_sane(
@@ -29,8 +29,8 @@ pub fn broken(state: &[usize]) -> usize
 
 // Are the slices as long as set-up was told?
 pub fn long_enough(state: &[usize], mem: usize, backing: usize, chain: usize, stage: usize) -> bool
-    requires { stateWords ≤ length state.now }
-    ensures { result ≡ longEnough state.now mem backing chain stage }
+    requires { state_words ≤ length state.now }
+    ensures { result ≡ long_enough state.now mem backing chain stage }
 {
     if mem < state[at::MEM_LEN] {
         return false;
@@ -55,7 +55,7 @@ pub fn go(
 ) -> usize
     requires framed { Framed state.old tag (length mem.old) (length backing.old) (length chain.old) (length stage.old) }
     requires tag_bound { tag < 8 }
-    ensures { StepIs (hdStep state.old mem.old backing.old chain.old stage.old) result state.new mem.new backing.new chain.new stage.new }
+    ensures { StepIs (hd_step state.old mem.old backing.old chain.old stage.old) result state.new mem.new backing.new chain.new stage.new }
 {
     if tag == 3 {
         return arms::descriptor(state, mem, backing, chain, stage);

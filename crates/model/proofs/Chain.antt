@@ -5,7 +5,7 @@ use mathlib.Core.Path.{◌≡◌, refl}
 use native.Mathlib.Omega.{arith}
 use lib.Dec.{leb, ltb}
 use Rattle.model.specs.Pick.{pick}
-use Rattle.model.specs.Chain.{testedBy, tally, complete, described, descsAfter}
+use Rattle.model.specs.Chain.{tested_by, tally, complete, described, descs_after}
 use Rattle.model.proofs.Tests.{on}
 use Rattle.model.specs.declared.Found.{Found}
 use Rattle.model.specs.declared.Found.TheVariants.{At, Nothing}
@@ -17,19 +17,19 @@ use Rattle.model.specs.declared.Tested.{Tested}
 use Rattle.model.specs.declared.Tested.TheVariants.{Bad, Next, Last}
 
 -- a descriptor that is held is not one too many
-pub next-room : (a s e : Bool) (f : Found) (l n g : Bool) (x : ℕ) → testedBy a s e f l n g ≡ Next x → a ≡ false
-unfolding testedBy
+pub next-room : (a s e : Bool) (f : Found) (l n g : Bool) (x : ℕ) → tested_by a s e f l n g ≡ Next x → a ≡ false
+unfolding tested_by
 next-room true s e f l n g x h = let z : ◌≡◌ {A = ℕ} 0 1 = cc in absurd (omega arith)
 next-room false s e f l n g x h = refl
 
-pub last-room : (a s e : Bool) (f : Found) (l n g : Bool) (x : ℕ) → testedBy a s e f l n g ≡ Last x → a ≡ false
-unfolding testedBy
+pub last-room : (a s e : Bool) (f : Found) (l n g : Bool) (x : ℕ) → tested_by a s e f l n g ≡ Last x → a ≡ false
+unfolding tested_by
 last-room true s e f l n g x h = let z : ◌≡◌ {A = ℕ} 0 1 = cc in absurd (omega arith)
 last-room false s e f l n g x h = refl
 
 -- a refused one has a reason from 2 to 7; 8 is a whole chain's
-pub bad-reason : (a s e : Bool) (f : Found) (l n g : Bool) (r : ℕ) → testedBy a s e f l n g ≡ Bad r → (1 ≤ r) × (r ≤ 7)
-unfolding testedBy
+pub bad-reason : (a s e : Bool) (f : Found) (l n g : Bool) (r : ℕ) → tested_by a s e f l n g ≡ Bad r → (1 ≤ r) × (r ≤ 7)
+unfolding tested_by
 bad-reason true s e f l n g r h = let z : ◌≡◌ {A = ℕ} r 3 = cc in omega arith
 bad-reason false true e f l n g r h = let z : ◌≡◌ {A = ℕ} r 4 = cc in omega arith
 bad-reason false false true f l n g r h = let z : ◌≡◌ {A = ℕ} r 5 = cc in omega arith
@@ -55,8 +55,8 @@ complete-ends k cur j n = go (leb k.count k.reads) (ltb k.r 16)
     go false true e = let z : ◌≡◌ {A = ℕ} 0 1 = cc in omega arith
     go false false e = let z : ◌≡◌ {A = ℕ} 0 1 = cc in omega arith
 
-pub chain-on : (n : ℕ) (k : Walk) (cur : ℕ) (d : Desc) (t : Tested) (j : Walk) (m : ℕ) → described k cur d t ≡ Chain j m → descsAfter n k t ≡ n
-unfolding described descsAfter
+pub chain-on : (n : ℕ) (k : Walk) (cur : ℕ) (d : Desc) (t : Tested) (j : Walk) (m : ℕ) → described k cur d t ≡ Chain j m → descs_after n k t ≡ n
+unfolding described descs_after
 chain-on n k cur d (Bad r) j m e = refl
 chain-on n k cur d (Next x) j m e = refl
 chain-on n k cur d (Last x) j m e = absurd (complete-ends (tally k d.flags d.len) cur j m e)

@@ -4,8 +4,8 @@ use mathlib.Core.Bool.{true, false}
 use mathlib.Core.Path.{◌≡◌, refl}
 use mathlib.Core.List.{List, [], ◌∷◌}
 use Rattle.model.specs.Bytes.{put, word, bytes}
-use Rattle.model.specs.Memory.{regions, regionCode, overlap, clash, regionsCode, memoryCode, contains, locate}
-use Rattle.model.specs.Ring.{among, sizeOk}
+use Rattle.model.specs.Memory.{regions, region_code, overlap, clash, regions_code, memory_code, contains, locate}
+use Rattle.model.specs.Ring.{among, queue_size_ok}
 use Rattle.model.specs.declared.Found.TheVariants.{At, Nothing}
 
 -- the region of 01 §6: guest 0x80000000, 65,536 bytes, at the slice's start
@@ -52,53 +52,53 @@ unfolding regions contains locate
 spans-two = (refl, refl, refl)
 
 -- g + len = 2^64 - 1 is allowed, and 2^64 is not
-pub top-of-addresses : (memoryCode 16 ((2 ^ 64 - 17) ∷ 16 ∷ 0 ∷ []) ≡ 0) × (memoryCode 16 ((2 ^ 64 - 16) ∷ 16 ∷ 0 ∷ []) ≡ 23)
-unfolding regions regionCode clash regionsCode memoryCode
+pub top-of-addresses : (memory_code 16 ((2 ^ 64 - 17) ∷ 16 ∷ 0 ∷ []) ≡ 0) × (memory_code 16 ((2 ^ 64 - 16) ∷ 16 ∷ 0 ∷ []) ≡ 23)
+unfolding regions region_code clash regions_code memory_code
 top-of-addresses = (refl, refl)
 
 -- a region that ends with the slice is allowed; in a slice of one byte less, or one place later, it leaves the slice
-pub leaves-slice : (memoryCode 65536 one ≡ 0) × (memoryCode 65535 one ≡ 22) × (memoryCode 65536 (2147483648 ∷ 65536 ∷ 1 ∷ []) ≡ 22)
-unfolding regions regionCode clash regionsCode memoryCode
+pub leaves-slice : (memory_code 65536 one ≡ 0) × (memory_code 65535 one ≡ 22) × (memory_code 65536 (2147483648 ∷ 65536 ∷ 1 ∷ []) ≡ 22)
+unfolding regions region_code clash regions_code memory_code
 leaves-slice = (refl, refl, refl)
 
 -- an empty region, wherever it is
-pub empty-region : memoryCode 65536 (2147483648 ∷ 0 ∷ 70000 ∷ []) ≡ 21
-unfolding regions regionCode clash regionsCode memoryCode
+pub empty-region : memory_code 65536 (2147483648 ∷ 0 ∷ 70000 ∷ []) ≡ 21
+unfolding regions region_code clash regions_code memory_code
 empty-region = refl
 
 -- a region that leaves the slice and the addresses both: 22 is tested first
-pub slice-before-addresses : memoryCode 65536 ((2 ^ 64 - 1) ∷ 65537 ∷ 0 ∷ []) ≡ 22
-unfolding regions regionCode clash regionsCode memoryCode
+pub slice-before-addresses : memory_code 65536 ((2 ^ 64 - 1) ∷ 65537 ∷ 0 ∷ []) ≡ 22
+unfolding regions region_code clash regions_code memory_code
 slice-before-addresses = refl
 
 -- regions are taken in order: the first region's 23 comes before the second one's 21
-pub regions-in-order : memoryCode 16 ((2 ^ 64 - 1) ∷ 16 ∷ 0 ∷ 0 ∷ 0 ∷ 0 ∷ []) ≡ 23
-unfolding regions regionCode clash regionsCode memoryCode
+pub regions-in-order : memory_code 16 ((2 ^ 64 - 1) ∷ 16 ∷ 0 ∷ 0 ∷ 0 ∷ 0 ∷ []) ≡ 23
+unfolding regions region_code clash regions_code memory_code
 regions-in-order = refl
 
 -- two regions that touch are allowed; with one address in common the second is refused, whichever comes first
 pub touch-or-overlap :
-    (memoryCode 8192 two ≡ 0) × (memoryCode 8192 (4096 ∷ 4096 ∷ 0 ∷ 8191 ∷ 4096 ∷ 4096 ∷ []) ≡ 24)
-    × (memoryCode 8192 (8191 ∷ 4096 ∷ 0 ∷ 4096 ∷ 4096 ∷ 4096 ∷ []) ≡ 24)
-unfolding regions regionCode overlap clash regionsCode memoryCode
+    (memory_code 8192 two ≡ 0) × (memory_code 8192 (4096 ∷ 4096 ∷ 0 ∷ 8191 ∷ 4096 ∷ 4096 ∷ []) ≡ 24)
+    × (memory_code 8192 (8191 ∷ 4096 ∷ 0 ∷ 4096 ∷ 4096 ∷ 4096 ∷ []) ≡ 24)
+unfolding regions region_code overlap clash regions_code memory_code
 touch-or-overlap = (refl, refl, refl)
 
 -- two regions share all their slice bytes
-pub shared-slice-bytes : memoryCode 4096 (4096 ∷ 4096 ∷ 0 ∷ 16384 ∷ 4096 ∷ 0 ∷ []) ≡ 0
-unfolding regions regionCode overlap clash regionsCode memoryCode
+pub shared-slice-bytes : memory_code 4096 (4096 ∷ 4096 ∷ 0 ∷ 16384 ∷ 4096 ∷ 0 ∷ []) ≡ 0
+unfolding regions region_code overlap clash regions_code memory_code
 shared-slice-bytes = refl
 
 -- 0 regions and 33 are refused, 32 are not; nor are four words any number of regions
 pub one-to-most :
-    (memoryCode 1 (single 0) ≡ 20) × (memoryCode 1 (single 32) ≡ 0) × (memoryCode 1 (single 33) ≡ 20) × (memoryCode 1 (0 ∷ 1 ∷ 0 ∷ 1 ∷ []) ≡ 20)
-unfolding regions regionCode overlap clash regionsCode memoryCode
+    (memory_code 1 (single 0) ≡ 20) × (memory_code 1 (single 32) ≡ 0) × (memory_code 1 (single 33) ≡ 20) × (memory_code 1 (0 ∷ 1 ∷ 0 ∷ 1 ∷ []) ≡ 20)
+unfolding regions region_code overlap clash regions_code memory_code
 one-to-most = (refl, refl, refl, refl)
 
 -- queues of 1, 512 and 1,024 are allowed; none of 0, 3, 1,023 or 2,048
 pub sizes-are :
-    (sizeOk 1 ≡ true) × (sizeOk 512 ≡ true) × (sizeOk 1024 ≡ true) × (sizeOk 0 ≡ false) × (sizeOk 3 ≡ false) × (sizeOk 1023 ≡ false)
-    × (sizeOk 2048 ≡ false)
-unfolding among sizeOk
+    (queue_size_ok 1 ≡ true) × (queue_size_ok 512 ≡ true) × (queue_size_ok 1024 ≡ true) × (queue_size_ok 0 ≡ false) × (queue_size_ok 3 ≡ false) × (queue_size_ok 1023 ≡ false)
+    × (queue_size_ok 2048 ≡ false)
+unfolding among queue_size_ok
 sizes-are = (refl, refl, refl, refl, refl, refl, refl)
 
 -- lowest byte first, both ways: 0x01020304 and 04 03 02 01

@@ -11,18 +11,18 @@ use lib.Dec.{leb, ltb, eqb}
 use lib.Seq.{drop-cons}
 use borrow.Author.Tests.{leb-true, ltb-true, ltb-false, eqb-true, eqb-false, eq-eqb, ne_eqb, le-leb, lt-leb}
 use Rattle.model.specs.Pick.{pick, both}
-use Rattle.model.specs.Memory.{Region, region, regions, regionCode, overlap, clash, regionsCode, memoryCode, sound, contains, locate, regionsMax}
+use Rattle.model.specs.Memory.{Region, region, regions, region_code, overlap, clash, regions_code, memory_code, sound, contains, locate, regions_max}
 use Rattle.model.specs.declared.Found.{Found}
 use Rattle.model.specs.declared.Found.TheVariants.{At, Nothing}
 use Rattle.model.proofs.Tests.{told, on, passed, both_l, both_r, both-split}
 use Rattle.model.proofs.Lists.{Disjoint, first, after}
 
 -- the region whose words begin at place i
-abbrev pub regionAt : List ℕ → ℕ → Region
-regionAt ws i = region (get_or ws i 0) (get_or ws (i + 1) 0) (get_or ws (i + 2) 0)
+abbrev pub region_at : List ℕ → ℕ → Region
+region_at ws i = region (get_or ws i 0) (get_or ws (i + 1) 0) (get_or ws (i + 2) 0)
 
 -- a turn of a loop over the words
-pub regions-turn : (ws : List ℕ) (i : ℕ) → i + 2 < length ws → regions (drop i ws) ≡ regionAt ws i ∷ regions (drop (i + 3) ws)
+pub regions-turn : (ws : List ℕ) (i : ℕ) → i + 2 < length ws → regions (drop i ws) ≡ region_at ws i ∷ regions (drop (i + 3) ws)
 unfolding regions
 regions-turn ws i h =
     rw (drop-cons ws i 0 (omega arith), drop-cons ws (suc i) 0 (omega arith), drop-cons ws (suc (suc i)) 0 (omega arith), add-one, add-two, add-three)
@@ -35,7 +35,7 @@ regions-end (a ∷ []) h = refl
 regions-end (a ∷ b ∷ []) h = refl
 regions-end (a ∷ b ∷ c ∷ ws) h = absurd (omega arith)
 
-pub regions-seen : (ws : List ℕ) (i : ℕ) → i % 3 ≡ 0 → i + 2 < length ws → regions (take (i + 3) ws) ≡ regions (take i ws) ++ (regionAt ws i ∷ [])
+pub regions-seen : (ws : List ℕ) (i : ℕ) → i % 3 ≡ 0 → i + 2 < length ws → regions (take (i + 3) ws) ≡ regions (take i ws) ++ (region_at ws i ∷ [])
 unfolding regions
 regions-seen [] i e h = absurd (omega arith)
 regions-seen (a ∷ []) i e h = absurd (omega arith)
@@ -53,8 +53,8 @@ pub record Sound (m : ℕ) (r : Region) : Type 0 where
   pub inside : r.place + r.len ≤ m
   pub below : r.guest + r.len ≤ 2 ^ 64 - 1
 
-pub region-sound : (m : ℕ) (r : Region) → regionCode m r ≡ 0 → Sound m r
-unfolding regionCode
+pub region-sound : (m : ℕ) (r : Region) → region_code m r ≡ 0 → Sound m r
+unfolding region_code
 region-sound m r e =
     let p = passed (eqb r.len 0) 21 e (omega arith) in
     let q = passed (ltb m (r.place + r.len)) 22 p.1 (omega arith) in
@@ -107,8 +107,8 @@ locate-in (r ∷ rest) a n x e = split (contains r.guest r.len a n) refl e (λ k
 -- .. and inside the slice
 pub in-slice : (m : ℕ) (rs : List Region) (a n x : ℕ) → sound m rs ≡ true → InOne rs a n x → x + n ≤ m
 unfolding sound
-in-slice m (r ∷ rest) a n x s (here w) = let k = region-sound m r (sound-head (regionCode m r) (sound m rest) s).0 in omega arith
-in-slice m (r ∷ rest) a n x s (later w) = in-slice m rest a n x (sound-head (regionCode m r) (sound m rest) s).1 w
+in-slice m (r ∷ rest) a n x s (here w) = let k = region-sound m r (sound-head (region_code m r) (sound m rest) s).0 in omega arith
+in-slice m (r ∷ rest) a n x s (later w) = in-slice m rest a n x (sound-head (region_code m r) (sound m rest) s).1 w
 
 pub locate-slice : (m : ℕ) (rs : List Region) (a n x : ℕ) → sound m rs ≡ true → locate rs a n ≡ At x → x + n ≤ m
 locate-slice m rs a n x s e = in-slice m rs a n x s (locate-in rs a n x e)
@@ -131,33 +131,33 @@ locate-out (r ∷ rest) a n x e (later w) = split (contains r.guest r.len a n) e
     split false k f = f k
 
 -- set-up's 0 makes every region sound
-pub code-sound : (m : ℕ) (seen rs : List Region) → regionsCode m seen rs ≡ 0 → sound m rs ≡ true
-unfolding regionsCode sound
+pub code-sound : (m : ℕ) (seen rs : List Region) → regions_code m seen rs ≡ 0 → sound m rs ≡ true
+unfolding regions_code sound
 code-sound m seen [] e = refl
-code-sound m seen (r ∷ rest) e = split (eqb (regionCode m r) 0) refl (clash seen r.guest r.len) e (λ k. code-sound m (seen ++ (r ∷ [])) rest k)
+code-sound m seen (r ∷ rest) e = split (eqb (region_code m r) 0) refl (clash seen r.guest r.len) e (λ k. code-sound m (seen ++ (r ∷ [])) rest k)
   where
-    split : (b : Bool) → eqb (regionCode m r) 0 ≡ b → (d : Bool) → pick b (pick d 24 (regionsCode m (seen ++ (r ∷ [])) rest)) (regionCode m r) ≡ 0
-        → (regionsCode m (seen ++ (r ∷ [])) rest ≡ 0 → sound m rest ≡ true) → pick b (sound m rest) false ≡ true
+    split : (b : Bool) → eqb (region_code m r) 0 ≡ b → (d : Bool) → pick b (pick d 24 (regions_code m (seen ++ (r ∷ [])) rest)) (region_code m r) ≡ 0
+        → (regions_code m (seen ++ (r ∷ [])) rest ≡ 0 → sound m rest ≡ true) → pick b (sound m rest) false ≡ true
     split true t true k f = absurd (omega arith)
     split true t false k f = f k
-    split false t d k f = absurd (eqb-false (regionCode m r) 0 t k)
+    split false t d k f = absurd (eqb-false (region_code m r) 0 t k)
 
 -- .. and tells how many words there are: three for each region, and no more regions than there may be
 pub record Mapped (m : ℕ) (words : List ℕ) : Type 0 where
   pub threes : length words % 3 ≡ 0
   pub some : 1 ≤ length words / 3
-  pub few : length words / 3 ≤ regionsMax
+  pub few : length words / 3 ≤ regions_max
   pub each-sound : sound m (regions words) ≡ true
 
-pub mapped : (m : ℕ) (words : List ℕ) → memoryCode m words ≡ 0 → Mapped m words
-unfolding memoryCode
-mapped m words e = split (both (eqb (length words % 3) 0) (both (leb 1 (length words / 3)) (leb (length words / 3) regionsMax))) refl e
+pub mapped : (m : ℕ) (words : List ℕ) → memory_code m words ≡ 0 → Mapped m words
+unfolding memory_code
+mapped m words e = split (both (eqb (length words % 3) 0) (both (leb 1 (length words / 3)) (leb (length words / 3) regions_max))) refl e
   where
-    split : (b : Bool) → both (eqb (length words % 3) 0) (both (leb 1 (length words / 3)) (leb (length words / 3) regionsMax)) ≡ b
-        → pick b (regionsCode m [] (regions words)) 20 ≡ 0 → Mapped m words
+    split : (b : Bool) → both (eqb (length words % 3) 0) (both (leb 1 (length words / 3)) (leb (length words / 3) regions_max)) ≡ b
+        → pick b (regions_code m [] (regions words)) 20 ≡ 0 → Mapped m words
     split true t k =
-        let a = both-split (eqb (length words % 3) 0) (both (leb 1 (length words / 3)) (leb (length words / 3) regionsMax)) t in
-        let b = both-split (leb 1 (length words / 3)) (leb (length words / 3) regionsMax) a.1 in
+        let a = both-split (eqb (length words % 3) 0) (both (leb 1 (length words / 3)) (leb (length words / 3) regions_max)) t in
+        let b = both-split (leb 1 (length words / 3)) (leb (length words / 3) regions_max) a.1 in
         record { threes = omega told; some = omega told; few = omega told; each-sound = code-sound m [] (regions words) k }
     split false t k = absurd (omega arith)
 
@@ -185,7 +185,7 @@ overlap-true g l h k p q e = split (ltb g h) refl e
     split false t e = record { address = g; in-first = omega told; in-second = omega told }
 
 -- A loop over the regions: the invariant says that the rest has the whole's answer.
-pub regions-from : (ws : List ℕ) (i : ℕ) → i < length ws / 3 → regions (drop (3 * i) ws) ≡ regionAt ws (3 * i) ∷ regions (drop (3 * (i + 1)) ws)
+pub regions-from : (ws : List ℕ) (i : ℕ) → i < length ws / 3 → regions (drop (3 * i) ws) ≡ region_at ws (3 * i) ∷ regions (drop (3 * (i + 1)) ws)
 regions-from ws i h = let e : 3 * (i + 1) ≡ 3 * i + 3 = omega arith in rw e (regions-turn ws (3 * i) (omega arith))
 
 pub regions-past : (ws : List ℕ) (i : ℕ) → length ws / 3 ≤ i → regions (drop (3 * i) ws) ≡ []
@@ -215,13 +215,13 @@ locate-empty [] a n h = refl
 locate-empty (r ∷ rest) a n h = rw (lt-leb 1 n h) (locate-empty rest a n h)
 
 pub sound-from : (m : ℕ) (ws : List ℕ) (i : ℕ) → i < length ws / 3
-    → sound m (regions (drop (3 * i) ws)) ≡ pick (eqb (regionCode m (regionAt ws (3 * i))) 0) (sound m (regions (drop (3 * (i + 1)) ws))) false
+    → sound m (regions (drop (3 * i) ws)) ≡ pick (eqb (region_code m (region_at ws (3 * i))) 0) (sound m (regions (drop (3 * (i + 1)) ws))) false
 unfolding sound
 sound-from m ws i h = rw (regions-from ws i h)
 
 pub sound-turn : (m : ℕ) (ws : List ℕ) (i : ℕ) → i < length ws / 3 → sound m (regions (drop (3 * i) ws)) ≡ true
-    → (regionCode m (regionAt ws (3 * i)) ≡ 0) × (sound m (regions (drop (3 * (i + 1)) ws)) ≡ true)
-sound-turn m ws i h s = sound-head (regionCode m (regionAt ws (3 * i))) (sound m (regions (drop (3 * (i + 1)) ws))) (sym (sound-from m ws i h) ∙ s)
+    → (region_code m (region_at ws (3 * i)) ≡ 0) × (sound m (regions (drop (3 * (i + 1)) ws)) ≡ true)
+sound-turn m ws i h s = sound-head (region_code m (region_at ws (3 * i))) (sound m (regions (drop (3 * (i + 1)) ws))) (sym (sound-from m ws i h) ∙ s)
 
 pub sound_none : (m : ℕ) (ws : List ℕ) (i : ℕ) → length ws / 3 ≤ i → sound m (regions (drop (3 * i) ws)) ≡ true
 unfolding sound
@@ -238,14 +238,14 @@ unfolding clash
 clash-none ws i g l h = rw (regions-end (drop i ws) (simp length-drop (omega arith)))
 
 -- the regions before place i are seen, the others to come
-abbrev pub codeFrom : ℕ → List ℕ → ℕ → ℕ
-codeFrom m ws i = regionsCode m (regions (take i ws)) (regions (drop i ws))
+abbrev pub code_from : ℕ → List ℕ → ℕ → ℕ
+code_from m ws i = regions_code m (regions (take i ws)) (regions (drop i ws))
 
 pub code-turn : (m : ℕ) (ws : List ℕ) (i : ℕ) → i % 3 ≡ 0 → i + 2 < length ws
-    → codeFrom m ws i ≡ pick (eqb (regionCode m (regionAt ws i)) 0) (pick (clash (regions (take i ws)) (get_or ws i 0) (get_or ws (i + 1) 0)) 24 (codeFrom m ws (i + 3))) (regionCode m (regionAt ws i))
-unfolding regionsCode
+    → code_from m ws i ≡ pick (eqb (region_code m (region_at ws i)) 0) (pick (clash (regions (take i ws)) (get_or ws i 0) (get_or ws (i + 1) 0)) 24 (code_from m ws (i + 3))) (region_code m (region_at ws i))
+unfolding regions_code
 code-turn m ws i e h = rw (regions-turn ws i h, regions-seen ws i e h)
 
-pub code-none : (m : ℕ) (ws : List ℕ) (i : ℕ) → length ws ≤ i + 2 → codeFrom m ws i ≡ 0
-unfolding regionsCode
+pub code-none : (m : ℕ) (ws : List ℕ) (i : ℕ) → length ws ≤ i + 2 → code_from m ws i ≡ 0
+unfolding regions_code
 code-none m ws i h = rw (regions-end (drop i ws) (simp length-drop (omega arith)))

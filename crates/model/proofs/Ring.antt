@@ -8,7 +8,7 @@ use lib.Dec.{leb, eqb}
 use borrow.Author.Tests.{eqb-true}
 use Rattle.model.specs.Pick.{pick, both, either}
 use Rattle.model.specs.Memory.{Region, locate}
-use Rattle.model.specs.Ring.{sizes, sizeMax, among, sizeOk, descBytes, availBytes, usedBytes, aligned, entangled, placed, areas}
+use Rattle.model.specs.Ring.{sizes, size_max, among, queue_size_ok, desc_bytes, avail_bytes, used_bytes, aligned, entangled, placed, areas}
 use Rattle.model.specs.declared.Found.{Found}
 use Rattle.model.specs.declared.Found.TheVariants.{At, Nothing}
 use Rattle.model.specs.declared.Queue.{Queue}
@@ -33,21 +33,21 @@ among-every f q (n ∷ ns) t e =
     split false b p g e = g e
 
 -- .. is passed by a size that enabling accepts: where it computes for each size, nothing else has to know which they are
-pub size-passes : (f : ℕ → Bool) (q : ℕ) → every f sizes ≡ true → sizeOk q ≡ true → f q ≡ true
-unfolding sizeOk
+pub size-passes : (f : ℕ → Bool) (q : ℕ) → every f sizes ≡ true → queue_size_ok q ≡ true → f q ≡ true
+unfolding queue_size_ok
 size-passes f q t e = among-every f q sizes t e
 
-pub size-range : (q : ℕ) → sizeOk q ≡ true → (1 ≤ q) × (q ≤ sizeMax)
+pub size-range : (q : ℕ) → queue_size_ok q ≡ true → (1 ≤ q) × (q ≤ size_max)
 unfolding every
 size-range q e =
-    let a = both-split (leb 1 q) (leb q sizeMax) (size-passes (λ (n : ℕ). both (leb 1 n) (leb n sizeMax)) q refl e) in
+    let a = both-split (leb 1 q) (leb q size_max) (size-passes (λ (n : ℕ). both (leb 1 n) (leb n size_max)) q refl e) in
     (omega told, omega told)
 
 -- a queue that was placed has the size that was asked for
 pub areas-size : (rs : List Region) (size desc avail used : ℕ) (q : Queue) → areas rs size desc avail used ≡ Placed q → q.size ≡ size
 unfolding areas placed
 areas-size rs size desc avail used q h =
-    go (sizeOk size) (aligned desc avail used) (locate rs desc (descBytes size)) (locate rs avail (availBytes size)) (locate rs used (usedBytes size)) (entangled size desc avail used) h
+    go (queue_size_ok size) (aligned desc avail used) (locate rs desc (desc_bytes size)) (locate rs avail (avail_bytes size)) (locate rs used (used_bytes size)) (entangled size desc avail used) h
   where
     go : (a b : Bool) (x y z : Found) (t : Bool) → pick a (pick b (placed size x y z t) (Refused 26)) (Refused 25) ≡ Placed q → q.size ≡ size
     go false b x y z t h = let n : ◌≡◌ {A = ℕ} 0 1 = cc in absurd (omega arith)

@@ -11,7 +11,7 @@ use lib.ListN.{get_or}
 use Rattle.model.specs.Pick.{pick, both}
 use Rattle.model.specs.Request.{fits}
 use Rattle.model.specs.Step.{Span, left, spans, writables}
-use Rattle.model.specs.Sane.{walkOk, fullOk, jobOk, sane, inside, allInside, placeOk, ready}
+use Rattle.model.specs.Sane.{walk_ok, full_ok, job_ok, sane, inside, all_inside, place_is_ok, ready}
 use Rattle.model.specs.declared.Walk.{Walk}
 use Rattle.model.specs.declared.Place.{Place}
 use Rattle.model.specs.declared.Job.{Job}
@@ -27,8 +27,8 @@ pub record WalkOk (q : ℕ) (k : Walk) : Type 0 where
   pub r-in : k.r ≤ 4294967295 * k.reads
   pub w-in : k.w ≤ 4294967295 * (k.count - k.reads)
 
-pub walk-ok : (q : ℕ) (k : Walk) → walkOk q k ≡ true → WalkOk q k
-unfolding walkOk
+pub walk-ok : (q : ℕ) (k : Walk) → walk_ok q k ≡ true → WalkOk q k
+unfolding walk_ok
 walk-ok q k e =
     let a = both-split (ltb k.head q) _ e in
     let b = both-split (leb k.count q) _ a.1 in
@@ -41,10 +41,10 @@ pub record FullOk (q : ℕ) (k : Walk) : Type 0 where
   pub writable : k.reads < k.count
   pub w-some : 1 ≤ k.w
 
-pub full-ok : (q : ℕ) (k : Walk) → fullOk q k ≡ true → FullOk q k
-unfolding fullOk
+pub full-ok : (q : ℕ) (k : Walk) → full_ok q k ≡ true → FullOk q k
+unfolding full_ok
 full-ok q k e =
-    let a = both-split (walkOk q k) _ e in
+    let a = both-split (walk_ok q k) _ e in
     let b = both-split (ltb k.reads k.count) _ a.1 in
     record { walk = walk-ok q k a.0; writable = omega told; w-some = omega told }
 
@@ -68,7 +68,7 @@ pub record ChainOk (q : ℕ) (k : Walk) (cur : ℕ) : Type 0 where
 
 pub chain-ok : (q sectors : ℕ) (k : Walk) (cur : ℕ) → sane q sectors (Chain k cur) ≡ true → ChainOk q k cur
 unfolding sane
-chain-ok q sectors k cur e = let a = both-split (walkOk q k) _ e in record { walk = walk-ok q k a.0; cur-in = omega told }
+chain-ok q sectors k cur e = let a = both-split (walk_ok q k) _ e in record { walk = walk-ok q k a.0; cur-in = omega told }
 
 pub record HeaderOk (q : ℕ) (k : Walk) (p : Place) (got : ℕ) : Type 0 where
   pub full : FullOk q k
@@ -79,7 +79,7 @@ pub record HeaderOk (q : ℕ) (k : Walk) (p : Place) (got : ℕ) : Type 0 where
 pub header_ok : (q sectors : ℕ) (k : Walk) (p : Place) (got : ℕ) → sane q sectors (Header k p got) ≡ true → HeaderOk q k p got
 unfolding sane
 header_ok q sectors k p got e =
-    let a = both-split (fullOk q k) _ e in
+    let a = both-split (full_ok q k) _ e in
     let b = both-split (ltb p.buf k.reads) _ a.1 in
     let c = both-split (ltb got 16) _ b.1 in
     record { full = full-ok q k a.0; buf-in = omega told; got_in = omega told; r_some = omega told }
@@ -94,7 +94,7 @@ pub record PayloadOk (q sectors : ℕ) (k : Walk) (p : Place) (s got : ℕ) : Ty
 pub payload-ok : (q sectors : ℕ) (k : Walk) (p : Place) (s got : ℕ) → sane q sectors (Payload k p s got) ≡ true → PayloadOk q sectors k p s got
 unfolding sane
 payload-ok q sectors k p s got e =
-    let a = both-split (fullOk q k) _ e in
+    let a = both-split (full_ok q k) _ e in
     let b = both-split (ltb p.buf k.reads) _ a.1 in
     let c = both-split (ltb 16 k.r) _ b.1 in
     let d = both-split (ltb got (k.r - 16)) _ c.1 in
@@ -103,12 +103,12 @@ payload-ok q sectors k p s got e =
 pub record AnswerOk (q sectors : ℕ) (k : Walk) (job : Job) (got : ℕ) : Type 0 where
   pub full : FullOk q k
   pub got_in : got ≤ k.r
-  pub job-in : jobOk sectors k job ≡ true
+  pub job-in : job_ok sectors k job ≡ true
 
 pub answer_ok : (q sectors : ℕ) (k : Walk) (job : Job) (got : ℕ) → sane q sectors (Answer k job got) ≡ true → AnswerOk q sectors k job got
 unfolding sane
 answer_ok q sectors k job got e =
-    let a = both-split (fullOk q k) _ e in
+    let a = both-split (full_ok q k) _ e in
     let b = both-split (leb got k.r) _ a.1 in
     record { full = full-ok q k a.0; got_in = omega told; job-in = b.1 }
 
@@ -116,37 +116,37 @@ pub record PlaceOk (m : ℕ) (chain : List ℕ) (p : Place) : Type 0 where
   pub skip-in : p.skip < get_or chain (2 * p.buf + 1) 0
   pub buf-inside : get_or chain (2 * p.buf) 0 + get_or chain (2 * p.buf + 1) 0 ≤ m
 
-pub place_ok : (m : ℕ) (chain : List ℕ) (p : Place) → placeOk m chain p ≡ true → PlaceOk m chain p
-unfolding placeOk inside
+pub place_ok : (m : ℕ) (chain : List ℕ) (p : Place) → place_is_ok m chain p ≡ true → PlaceOk m chain p
+unfolding place_is_ok inside
 place_ok m chain p e =
     let a = both-split (ltb p.skip (get_or chain (2 * p.buf + 1) 0)) _ e in record { skip-in = omega told; buf-inside = omega told }
 
 -- a loop over the buffers: the invariant says that the rest has the whole's answer
 pub inside-turn : (m i e : ℕ) (chain : List ℕ) → i < e
-    → allInside m (spans (e - i) i chain)
-    ≡ pick (inside m (get_or chain (2 * i) 0) (get_or chain (2 * i + 1) 0)) (allInside m (spans (e - (i + 1)) (i + 1) chain)) false
-unfolding allInside
+    → all_inside m (spans (e - i) i chain)
+    ≡ pick (inside m (get_or chain (2 * i) 0) (get_or chain (2 * i + 1) 0)) (all_inside m (spans (e - (i + 1)) (i + 1) chain)) false
+unfolding all_inside
 inside-turn m i e chain h = rw (spans-turn i e chain h)
 
-pub inside-end : (m i e : ℕ) (chain : List ℕ) → e ≤ i → allInside m (spans (e - i) i chain) ≡ true
-unfolding allInside
+pub inside-end : (m i e : ℕ) (chain : List ℕ) → e ≤ i → all_inside m (spans (e - i) i chain) ≡ true
+unfolding all_inside
 inside-end m i e chain h = rw (spans-end i e chain h)
 
-pub inside-here : (m i e : ℕ) (chain : List ℕ) → i < e → allInside m (spans (e - i) i chain) ≡ true → get_or chain (2 * i) 0 + get_or chain (2 * i + 1) 0 ≤ m
+pub inside-here : (m i e : ℕ) (chain : List ℕ) → i < e → all_inside m (spans (e - i) i chain) ≡ true → get_or chain (2 * i) 0 + get_or chain (2 * i + 1) 0 ≤ m
 unfolding inside
 inside-here m i e chain h t =
     leb-true _ _ (picked (leb (get_or chain (2 * i) 0 + get_or chain (2 * i + 1) 0) m) _ (sym (inside-turn m i e chain h) ∙ t)).0
 
-pub inside-rest : (m i e : ℕ) (chain : List ℕ) → i < e → allInside m (spans (e - i) i chain) ≡ true → allInside m (spans (e - (i + 1)) (i + 1) chain) ≡ true
+pub inside-rest : (m i e : ℕ) (chain : List ℕ) → i < e → all_inside m (spans (e - i) i chain) ≡ true → all_inside m (spans (e - (i + 1)) (i + 1) chain) ≡ true
 inside-rest m i e chain h t = (picked (inside m (get_or chain (2 * i) 0) (get_or chain (2 * i + 1) 0)) _ (sym (inside-turn m i e chain h) ∙ t)).1
 
 -- each of the buffers, and so the last
-pub inside-at : (m i e : ℕ) (chain : List ℕ) (d : ℕ) → i + d < e → allInside m (spans (e - i) i chain) ≡ true
+pub inside-at : (m i e : ℕ) (chain : List ℕ) (d : ℕ) → i + d < e → all_inside m (spans (e - i) i chain) ≡ true
     → get_or chain (2 * (i + d)) 0 + get_or chain (2 * (i + d) + 1) 0 ≤ m
 inside-at m i e chain zero h t = rw (add-zero i) (inside-here m i e chain (omega arith) t)
 inside-at m i e chain (suc d) h t =
     let p : i + suc d ≡ i + 1 + d = omega arith in rw p (inside-at m (i + 1) e chain d (omega arith) (inside-rest m i e chain (omega arith) t))
 
-pub read_fits : (sectors : ℕ) (k : Walk) (s : ℕ) → jobOk sectors k (Read s) ≡ true → Fits (k.w - 1) s sectors
-unfolding jobOk
+pub read_fits : (sectors : ℕ) (k : Walk) (s : ℕ) → job_ok sectors k (Read s) ≡ true → Fits (k.w - 1) s sectors
+unfolding job_ok
 read_fits sectors k s e = fits-ok (k.w - 1) s sectors e

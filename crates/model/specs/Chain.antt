@@ -15,25 +15,25 @@ use Rattle.model.specs.declared.Phase.{Phase}
 use Rattle.model.specs.declared.Phase.TheVariants.{Chain, Header, Answer, Broken}
 
 -- "A descriptor: addr u64, len u32, flags u16, next u16", from its 16 bytes at place k
-unfoldable pub descAt : ℕ → List ℕ → Desc
-descAt k m = record { addr = word 8 k m; len = word 4 (k + 8) m; flags = word 2 (k + 12) m; next = word 2 (k + 14) m }
+unfoldable pub desc_at : ℕ → List ℕ → Desc
+desc_at k m = record { addr = word 8 k m; len = word 4 (k + 8) m; flags = word 2 (k + 12) m; next = word 2 (k + 14) m }
 
 -- "it would be number q + 1 of this chain: reason 3 · any flag but 1 and 2: reason 4 · len = 0: reason 5 · the buffer isn't in memory: reason 6
 -- · it is readable and stands after a writable one: reason 7 · it has NEXT and next is q or more: reason 2. No NEXT: the chain is complete."
-unfoldable pub testedBy : (many strange empty : Bool) → Found → (late last far : Bool) → Tested
-testedBy true s e f l n g = Bad 3
-testedBy false true e f l n g = Bad 4
-testedBy false false true f l n g = Bad 5
-testedBy false false false Nothing l n g = Bad 6
-testedBy false false false (At x) true n g = Bad 7
-testedBy false false false (At x) false true g = Last x
-testedBy false false false (At x) false false true = Bad 2
-testedBy false false false (At x) false false false = Next x
+unfoldable pub tested_by : (many strange empty : Bool) → Found → (late last far : Bool) → Tested
+tested_by true s e f l n g = Bad 3
+tested_by false true e f l n g = Bad 4
+tested_by false false true f l n g = Bad 5
+tested_by false false false Nothing l n g = Bad 6
+tested_by false false false (At x) true n g = Bad 7
+tested_by false false false (At x) false true g = Last x
+tested_by false false false (At x) false false true = Bad 2
+tested_by false false false (At x) false false false = Next x
 
 -- flags is 0 to 3 once the second test is passed: below 2 is readable, odd has NEXT
 unfoldable pub tested : List Region → ℕ → Walk → Desc → Tested
 tested rs q k d =
-    testedBy (leb q k.count) (ltb 3 d.flags) (eqb d.len 0) (locate rs d.addr d.len)
+    tested_by (leb q k.count) (ltb 3 d.flags) (eqb d.len 0) (locate rs d.addr d.len)
     (both (ltb d.flags 2) (ltb k.reads k.count)) (eqb (d.flags % 2) 0) (leb q d.next)
 
 -- the chain with one descriptor more
@@ -61,10 +61,10 @@ described k cur d (Next x) = Chain (tally k d.flags d.len) d.next
 described k cur d (Last x) = complete (tally k d.flags d.len) cur
 
 -- DEV-12: "the number of descriptors of the last chain that was complete", n before this descriptor; "No NEXT: the chain is complete."
-unfoldable pub descsAfter : ℕ → Walk → Tested → ℕ
-descsAfter n k (Bad r) = n
-descsAfter n k (Next x) = n
-descsAfter n k (Last x) = k.count + 1
+unfoldable pub descs_after : ℕ → Walk → Tested → ℕ
+descs_after n k (Bad r) = n
+descs_after n k (Next x) = n
+descs_after n k (Last x) = k.count + 1
 
 unfoldable pub keeps : List ℕ → Walk → Desc → Tested → List ℕ
 keeps chain k d (Bad n) = chain

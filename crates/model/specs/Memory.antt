@@ -22,8 +22,8 @@ regions (a ∷ b ∷ []) = []
 regions (g ∷ l ∷ o ∷ rest) = region g l o ∷ regions rest
 
 -- "refuses one of length 0 (21), one that leaves the slice (22), one whose g + len exceeds 2^64 - 1 (23)"; m is the slice's length
-unfoldable pub regionCode : ℕ → Region → ℕ
-regionCode m r = pick (eqb r.len 0) 21 (pick (ltb m (r.place + r.len)) 22 (pick (ltb (2 ^ 64 - 1) (r.guest + r.len)) 23 0))
+unfoldable pub region_code : ℕ → Region → ℕ
+region_code m r = pick (eqb r.len 0) 21 (pick (ltb m (r.place + r.len)) 22 (pick (ltb (2 ^ 64 - 1) (r.guest + r.len)) 23 0))
 
 -- the l addresses from g on and the k from h on have one in common: those that begin later begin before the others end
 unfoldable pub overlap : ℕ → ℕ → ℕ → ℕ → Bool
@@ -34,24 +34,24 @@ clash [] g l = false
 clash (s ∷ seen) g l = pick (overlap g l s.guest s.len) true (clash seen g l)
 
 -- "takes the regions in order", those before being `seen`: ".. and one whose guest addresses overlap an earlier one's (24)"
-unfoldable pub regionsCode : ℕ → List Region → List Region → ℕ
-regionsCode m seen [] = 0
-regionsCode m seen (r ∷ rest) =
-    pick (eqb (regionCode m r) 0) (pick (clash seen r.guest r.len) 24 (regionsCode m (seen ++ (r ∷ [])) rest)) (regionCode m r)
+unfoldable pub regions_code : ℕ → List Region → List Region → ℕ
+regions_code m seen [] = 0
+regions_code m seen (r ∷ rest) =
+    pick (eqb (region_code m r) 0) (pick (clash seen r.guest r.len) 24 (regions_code m (seen ++ (r ∷ [])) rest)) (region_code m r)
 
 -- the most regions that a map may have (DEV-13)
-abbrev pub regionsMax : ℕ
-regionsMax = 32
+abbrev pub regions_max : ℕ
+regions_max = 32
 
 -- "1 to" that many "regions .. refuses another number of regions (answer 20)"; a number of words that is no multiple of 3 is 20 too
-unfoldable pub memoryCode : ℕ → List ℕ → ℕ
-memoryCode m words =
-    pick (both (eqb (length words % 3) 0) (both (leb 1 (length words / 3)) (leb (length words / 3) regionsMax))) (regionsCode m [] (regions words)) 20
+unfoldable pub memory_code : ℕ → List ℕ → ℕ
+memory_code m words =
+    pick (both (eqb (length words % 3) 0) (both (leb 1 (length words / 3)) (leb (length words / 3) regions_max))) (regions_code m [] (regions words)) 20
 
 -- each region by itself is one that set-up allows
 unfoldable pub sound : ℕ → List Region → Bool
 sound m [] = true
-sound m (r ∷ rest) = pick (eqb (regionCode m r) 0) (sound m rest) false
+sound m (r ∷ rest) = pick (eqb (region_code m r) 0) (sound m rest) false
 
 -- "A range of n >= 1 guest bytes from address a is in memory if one region contains all of it."
 unfoldable pub contains : ℕ → ℕ → ℕ → ℕ → Bool

@@ -10,8 +10,8 @@ use Rattle.model.specs.declared.Phase.{Phase}
 use Rattle.model.specs.declared.Phase.TheVariants.{Payload, Answer}
 
 -- 03 §1: "1 <= c <= 2^32 .. refuses another capacity (29) and a range that leaves the backing slice (30)"
-unfoldable pub diskCode : ℕ → ℕ → ℕ → ℕ
-diskCode start sectors backing =
+unfoldable pub disk_code : ℕ → ℕ → ℕ → ℕ
+disk_code start sectors backing =
     pick (both (leb 1 sectors) (leb sectors (2 ^ 32))) (pick (leb (start + 512 * sectors) backing) 0 30) 29
 
 -- "n fits if n is a multiple of 512, at most 1,048,576, sector <= c and n / 512 <= c - sector"
@@ -19,11 +19,11 @@ unfoldable pub fits : ℕ → ℕ → ℕ → Bool
 fits n sector c = both (eqb (n % 512) 0) (both (leb n 1048576) (both (leb sector c) (leb (n / 512) (c - sector))))
 
 -- 03 §3, the column "accepted if": IN, OUT, FLUSH, GET_ID
-unfoldable pub inOk : Disk → ℕ → ℕ → ℕ → Bool
-inOk d sector r w = both (eqb r 16) (fits (w - 1) sector d.sectors)
+unfoldable pub in_ok : Disk → ℕ → ℕ → ℕ → Bool
+in_ok d sector r w = both (eqb r 16) (fits (w - 1) sector d.sectors)
 
-unfoldable pub outOk : Disk → ℕ → ℕ → ℕ → Bool
-outOk d sector r w = both (eqb w 1) (both (fits (r - 16) sector d.sectors) (eqb d.ro 0))
+unfoldable pub out_ok : Disk → ℕ → ℕ → ℕ → Bool
+out_ok d sector r w = both (eqb w 1) (both (fits (r - 16) sector d.sectors) (eqb d.ro 0))
 
 -- FLUSH: r = 16, w = 1. GET_ID: r = 16, w = 21.
 unfoldable pub exactly : ℕ → ℕ → ℕ → Job → Job
@@ -33,8 +33,8 @@ exactly r w n job = pick (both (eqb r 16) (eqb w n)) job Failed
 unfoldable pub verdict : Disk → ℕ → ℕ → ℕ → ℕ → Job
 verdict d type sector r w =
     pick (ltb r 16) Failed
-    (pick (eqb type 0) (pick (inOk d sector r w) (Read sector) Failed)
-    (pick (eqb type 1) (pick (outOk d sector r w) (Write sector) Failed)
+    (pick (eqb type 0) (pick (in_ok d sector r w) (Read sector) Failed)
+    (pick (eqb type 1) (pick (out_ok d sector r w) (Write sector) Failed)
     (pick (eqb type 4) (exactly r w 1 Done)
     (pick (eqb type 8) (exactly r w 21 Identity) Unsupported))))
 

@@ -14,25 +14,25 @@ use Rattle.model.specs.declared.Phase.TheVariants.{Poll, Entry, Chain, Broken}
 abbrev pub sizes : List ℕ
 sizes = 1 ∷ 2 ∷ 4 ∷ 8 ∷ 16 ∷ 32 ∷ 64 ∷ 128 ∷ 256 ∷ 512 ∷ 1024 ∷ []
 
-abbrev pub sizeMax : ℕ
-sizeMax = 1024
+abbrev pub size_max : ℕ
+size_max = 1024
 
 unfoldable pub among : ℕ → List ℕ → Bool
 among q [] = false
 among q (n ∷ ns) = either (eqb q n) (among q ns)
 
-unfoldable pub sizeOk : ℕ → Bool
-sizeOk q = among q sizes
+unfoldable pub queue_size_ok : ℕ → Bool
+queue_size_ok q = among q sizes
 
 -- the table of the areas: their bytes ..
-abbrev pub descBytes : ℕ → ℕ
-descBytes q = 16 * q
+abbrev pub desc_bytes : ℕ → ℕ
+desc_bytes q = 16 * q
 
-abbrev pub availBytes : ℕ → ℕ
-availBytes q = 6 + 2 * q
+abbrev pub avail_bytes : ℕ → ℕ
+avail_bytes q = 6 + 2 * q
 
-abbrev pub usedBytes : ℕ → ℕ
-usedBytes q = 6 + 8 * q
+abbrev pub used_bytes : ℕ → ℕ
+used_bytes q = 6 + 8 * q
 
 -- .. and "address a multiple of"
 unfoldable pub aligned : ℕ → ℕ → ℕ → Bool
@@ -41,7 +41,7 @@ aligned desc avail used = both (eqb (desc % 16) 0) (both (eqb (avail % 2) 0) (eq
 -- "used and available areas or used and descriptor areas whose guest addresses overlap"
 unfoldable pub entangled : ℕ → ℕ → ℕ → ℕ → Bool
 entangled q desc avail used =
-    either (overlap used (usedBytes q) avail (availBytes q)) (overlap used (usedBytes q) desc (descBytes q))
+    either (overlap used (used_bytes q) avail (avail_bytes q)) (overlap used (used_bytes q) desc (desc_bytes q))
 
 -- "an area that isn't in memory (27)", then the overlap (28)
 unfoldable pub placed : ℕ → Found → Found → Found → Bool → Areas
@@ -54,9 +54,9 @@ placed q (At x) (At y) (At z) false = Placed (record { size = q; desc = x; avail
 -- "Enabling a queue refuses, in this order, a bad size (25), a misaligned area (26)", then as above
 unfoldable pub areas : List Region → ℕ → ℕ → ℕ → ℕ → Areas
 areas rs q desc avail used =
-    pick (sizeOk q)
+    pick (queue_size_ok q)
     (pick (aligned desc avail used)
-    (placed q (locate rs desc (descBytes q)) (locate rs avail (availBytes q)) (locate rs used (usedBytes q)) (entangled q desc avail used))
+    (placed q (locate rs desc (desc_bytes q)) (locate rs avail (avail_bytes q)) (locate rs used (used_bytes q)) (entangled q desc avail used))
     (Refused 26))
     (Refused 25)
 
@@ -64,8 +64,8 @@ areas rs q desc avail used =
 unfoldable pub pending : ℕ → ℕ → ℕ
 pending idx taken = (idx + 65536 - taken) % 65536
 
-unfoldable pub oneMore : ℕ → ℕ
-oneMore n = (n + 1) % 65536
+unfoldable pub plus_one : ℕ → ℕ
+plus_one n = (n + 1) % 65536
 
 -- DEV-12: "65,536 where the queue is in order or broke elsewhere": no descriptor was refused
 abbrev pub elsewhere : ℕ

@@ -3,8 +3,8 @@ use Rattle.std.specs.Prelude.{ℕ, zero, suc, ◌+◌, ◌-◌, ◌*◌, ◌^◌
 use Rattle.model.specs.Pick.{pick, both}
 use Rattle.model.specs.Bytes.{put, part, word, bytes}
 use Rattle.model.specs.Memory.{Region}
-use Rattle.model.specs.Ring.{polled, headed, oneMore}
-use Rattle.model.specs.Chain.{descAt, tested, described, descsAfter, keeps}
+use Rattle.model.specs.Ring.{polled, headed, plus_one}
+use Rattle.model.specs.Chain.{desc_at, tested, described, descs_after, keeps}
 use Rattle.model.specs.Request.{fits, verdict, status, reported, decided}
 use Rattle.model.specs.declared.Queue.{Queue}
 use Rattle.model.specs.declared.Disk.{Disk}
@@ -81,7 +81,7 @@ paid k p sector got l = pick (ends k got l) (Answer k Done k.r) (Payload k (reco
 unfoldable pub next : Cfg → ℕ → List ℕ → List ℕ → Phase → List ℕ → Phase
 next c taken chain stage Poll f = polled c.queue.size taken (word 2 0 f)
 next c taken chain stage Entry f = headed c.queue.size (word 2 0 f)
-next c taken chain stage (Chain k cur) f = described k cur (descAt 0 f) (tested c.map c.queue.size k (descAt 0 f))
+next c taken chain stage (Chain k cur) f = described k cur (desc_at 0 f) (tested c.map c.queue.size k (desc_at 0 f))
 next c taken chain stage (Header k p got) f =
     gathered c.disk k p got (left chain p).len (lacks got (left chain p).len) (word 4 0 (put stage got f)) (word 8 8 (put stage got f))
 next c taken chain stage (Payload k p sector got) f = paid k p sector got (left chain p).len
@@ -93,7 +93,7 @@ next c taken chain stage (Broken reason head count at) f = Broken reason head co
 unfoldable pub chained : Cfg → List ℕ → Phase → List ℕ → List ℕ
 chained c chain Poll f = chain
 chained c chain Entry f = chain
-chained c chain (Chain k cur) f = keeps chain k (descAt 0 f) (tested c.map c.queue.size k (descAt 0 f))
+chained c chain (Chain k cur) f = keeps chain k (desc_at 0 f) (tested c.map c.queue.size k (desc_at 0 f))
 chained c chain (Header k p got) f = chain
 chained c chain (Payload k p sector got) f = chain
 chained c chain (Answer k job got) f = chain
@@ -104,7 +104,7 @@ chained c chain (Broken reason head count at) f = chain
 unfoldable pub measured : Cfg → ℕ → Phase → List ℕ → ℕ
 measured c n Poll f = n
 measured c n Entry f = n
-measured c n (Chain k cur) f = descsAfter n k (tested c.map c.queue.size k (descAt 0 f))
+measured c n (Chain k cur) f = descs_after n k (tested c.map c.queue.size k (desc_at 0 f))
 measured c n (Header k p got) f = n
 measured c n (Payload k p sector got) f = n
 measured c n (Answer k job got) f = n
@@ -170,36 +170,36 @@ handed id disk k (Write sector) = []
 handed id disk k Identity = id
 
 -- "The status byte is always written, to the last writable byte."
-abbrev pub statusAt : List ℕ → Walk → ℕ
-statusAt chain k = get_or chain (2 * (k.count - 1)) 0 + (get_or chain (2 * (k.count - 1) + 1) 0 - 1)
+abbrev pub status_at : List ℕ → Walk → ℕ
+status_at chain k = get_or chain (2 * (k.count - 1)) 0 + (get_or chain (2 * (k.count - 1) + 1) 0 - 1)
 
 -- "used entry (answered modulo q) becomes {id = head, len = L}"
-abbrev pub usedAt : Queue → ℕ → ℕ
-usedAt q answered = q.used + (4 + 8 * (answered % q.size))
+abbrev pub used_at : Queue → ℕ → ℕ
+used_at q answered = q.used + (4 + 8 * (answered % q.size))
 
 -- 01 §5: "payload in chain order, then status, then the used entry"
-unfoldable pub answerStores : List ℕ → Queue → ℕ → List ℕ → List ℕ → Walk → Job → List Store
-answerStores id q answered chain disk k job =
+unfoldable pub answer_stores : List ℕ → Queue → ℕ → List ℕ → List ℕ → Walk → Job → List Store
+answer_stores id q answered chain disk k job =
     scatter (writables chain k) (handed id disk k job)
-    ++ (record { to = statusAt chain k; bytes = status job ∷ [] }
-    ∷ record { to = usedAt q answered; bytes = bytes 4 k.head ++ bytes 4 (reported (status job) k.w) } ∷ [])
+    ++ (record { to = status_at chain k; bytes = status job ∷ [] }
+    ∷ record { to = used_at q answered; bytes = bytes 4 k.head ++ bytes 4 (reported (status job) k.w) } ∷ [])
 
 -- ".. then idx", in a step of its own
-unfoldable pub memStores : Cfg → ℕ → List ℕ → List ℕ → Effect → List Store
-memStores c answered chain disk nothing = []
-memStores c answered chain disk (stores at bs) = []
-memStores c answered chain disk (answers k job) = answerStores c.id c.queue answered chain disk k job
-memStores c answered chain disk publishes = record { to = c.queue.used + 2; bytes = bytes 2 (oneMore answered) } ∷ []
+unfoldable pub mem_stores : Cfg → ℕ → List ℕ → List ℕ → Effect → List Store
+mem_stores c answered chain disk nothing = []
+mem_stores c answered chain disk (stores at bs) = []
+mem_stores c answered chain disk (answers k job) = answer_stores c.id c.queue answered chain disk k job
+mem_stores c answered chain disk publishes = record { to = c.queue.used + 2; bytes = bytes 2 (plus_one answered) } ∷ []
 
-unfoldable pub diskStores : Effect → List Store
-diskStores nothing = []
-diskStores (stores at bs) = record { to = at; bytes = bs } ∷ []
-diskStores (answers k job) = []
-diskStores publishes = []
+unfoldable pub disk_stores : Effect → List Store
+disk_stores nothing = []
+disk_stores (stores at bs) = record { to = at; bytes = bs } ∷ []
+disk_stores (answers k job) = []
+disk_stores publishes = []
 
 -- this disk's bytes of the backing slice, and the backing slice with other ones
-abbrev pub diskOf : Disk → List ℕ → List ℕ
-diskOf d backing = part d.start (512 * d.sectors) backing
+abbrev pub disk_of : Disk → List ℕ → List ℕ
+disk_of d backing = part d.start (512 * d.sectors) backing
 
 unfoldable pub shifted : ℕ → List Store → List ℕ → List ℕ
 shifted d [] b = b
@@ -209,23 +209,23 @@ unfoldable pub counted : Effect → ℕ → ℕ
 counted nothing n = n
 counted (stores at bs) n = n
 counted (answers k job) n = n
-counted publishes n = oneMore n
+counted publishes n = plus_one n
 
 -- "0 nothing to do · 1 went on, call again · 2 a request was answered just now · 3 broken in this step", from the effect and the phase after
-unfoldable pub codeAfter : Phase → ℕ
-codeAfter Poll = 0
-codeAfter Entry = 1
-codeAfter (Chain k cur) = 1
-codeAfter (Header k p got) = 1
-codeAfter (Payload k p sector got) = 1
-codeAfter (Answer k job got) = 1
-codeAfter (Publish k got) = 1
-codeAfter (Broken reason head count at) = 3
+unfoldable pub code_after : Phase → ℕ
+code_after Poll = 0
+code_after Entry = 1
+code_after (Chain k cur) = 1
+code_after (Header k p got) = 1
+code_after (Payload k p sector got) = 1
+code_after (Answer k job got) = 1
+code_after (Publish k got) = 1
+code_after (Broken reason head count at) = 3
 
 unfoldable pub code_of : Effect → Phase → ℕ
-code_of nothing p = codeAfter p
-code_of (stores at bs) p = codeAfter p
-code_of (answers k job) p = codeAfter p
+code_of nothing p = code_after p
+code_of (stores at bs) p = code_after p
+code_of (answers k job) p = code_after p
 code_of publishes p = 2
 
 pub record Out : Type 0 where
@@ -241,12 +241,12 @@ abbrev pub fetched : Cfg → State → List ℕ → List ℕ → List ℕ
 fetched c s chain mem = part (want c s.taken chain s.phase).at (want c s.taken chain s.phase).len mem
 
 -- .. are all that the rest of it sees of guest memory
-unfoldable pub stepWith : Cfg → State → List ℕ → List ℕ → List ℕ → List ℕ → List ℕ → Effect → Phase → Out
-stepWith c s mem backing chain stage f e p =
+unfoldable pub step_with : Cfg → State → List ℕ → List ℕ → List ℕ → List ℕ → List ℕ → Effect → Phase → Out
+step_with c s mem backing chain stage f e p =
     record {
       state = record { taken = counted e s.taken; answered = counted e s.answered; descs = measured c s.descs s.phase f; phase = p };
-      mem = apply (memStores c s.answered chain (diskOf c.disk backing) e) mem;
-      backing = shifted c.disk.start (diskStores e) backing;
+      mem = apply (mem_stores c s.answered chain (disk_of c.disk backing) e) mem;
+      backing = shifted c.disk.start (disk_stores e) backing;
       chain = chained c chain s.phase f;
       stage = staged chain stage s.phase f;
       code = code_of e p;
@@ -254,5 +254,5 @@ stepWith c s mem backing chain stage f e p =
 
 unfoldable pub step : Cfg → State → List ℕ → List ℕ → List ℕ → List ℕ → Out
 step c s mem backing chain stage =
-    stepWith c s mem backing chain stage (fetched c s chain mem) (effect chain stage s.phase (fetched c s chain mem))
+    step_with c s mem backing chain stage (fetched c s chain mem) (effect chain stage s.phase (fetched c s chain mem))
     (next c s.taken chain stage s.phase (fetched c s chain mem))

@@ -2,7 +2,7 @@
 // Up to 32 regions (DEV-13), three words each in lent memory: guest address, length, offset in the slice.
 ghost use Rattle.std.specs.Prelude.{◌≡◌, ◌+◌, ◌≤◌, eqb, length, true};
 ghost use Rattle.model.specs.Bytes.{put};
-ghost use Rattle.model.specs.Memory.{region, regions, regionCode, overlap, clash, memoryCode, sound, contains, locate};
+ghost use Rattle.model.specs.Memory.{region, regions, region_code, overlap, clash, memory_code, sound, contains, locate};
 
 use model::Found;
 
@@ -10,7 +10,7 @@ pub const REGIONS_MAX: usize = 32;
 
 // 21, 22, 23, or 0. No sum is made: each test subtracts what an earlier one allowed.
 pub fn region_code(m: usize, g: usize, l: usize, o: usize) -> usize
-    ensures { result ≡ regionCode m (region g l o) }
+    ensures { result ≡ region_code m (region g l o) }
 {
     if l == 0 {
         return 21;
@@ -58,7 +58,7 @@ fn clashes(seen: &[usize], g: usize, l: usize) -> bool
 
 // What set-up answers to these regions over a slice of m bytes: 0, or 20 to 24.
 pub fn memory_code(m: usize, map: &[usize]) -> usize
-    ensures { result ≡ memoryCode m map.now }
+    ensures { result ≡ memory_code m map.now }
 {
     if map.len() % 3 != 0 {
         return 20;
@@ -84,7 +84,7 @@ pub fn memory_code(m: usize, map: &[usize]) -> usize
 }
 
 fn sound_one(m: usize, g: usize, l: usize, o: usize) -> bool
-    ensures { result ≡ eqb (regionCode m (region g l o)) 0 }
+    ensures { result ≡ eqb (region_code m (region g l o)) 0 }
 {
     region_code(m, g, l, o) == 0
 }

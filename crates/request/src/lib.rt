@@ -1,6 +1,6 @@
 // The request (03 §2 to §4): the table from r, w, the header and the disk's description to a verdict; status and length.
 ghost use Rattle.std.specs.Prelude.{◌≡◌, ◌≤◌};
-ghost use Rattle.model.specs.Request.{fits, inOk, outOk, exactly, verdict, status, reported, decided};
+ghost use Rattle.model.specs.Request.{fits, in_ok, out_ok, exactly, verdict, status, reported, decided};
 
 use model::{Disk, Job, Phase, Place, Walk};
 
@@ -22,7 +22,7 @@ pub fn fits(n: usize, sector: usize, c: usize) -> bool
 
 fn in_ok(d: Disk, sector: usize, r: usize, w: usize) -> bool
     requires { 1 ≤ w }
-    ensures { result ≡ inOk d sector r w }
+    ensures { result ≡ in_ok d sector r w }
 {
     if r != 16 {
         return false;
@@ -32,7 +32,7 @@ fn in_ok(d: Disk, sector: usize, r: usize, w: usize) -> bool
 
 fn out_ok(d: Disk, sector: usize, r: usize, w: usize) -> bool
     requires { 16 ≤ r }
-    ensures { result ≡ outOk d sector r w }
+    ensures { result ≡ out_ok d sector r w }
 {
     if w != 1 {
         return false;

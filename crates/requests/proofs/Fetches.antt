@@ -19,7 +19,7 @@ use Rattle.model.specs.declared.Phase.TheVariants.{Header, Payload, Answer}
 use Rattle.model.proofs.Lists.{put-put, part-put, length_part}
 use Rattle.requests.specs.Serve.{total}
 use Rattle.requests.specs.Steps.{up_to, past}
-use Rattle.requests.specs.Guest.{out, gatherFrom}
+use Rattle.requests.specs.Guest.{out, gather_from}
 use Rattle.requests.proofs.Spans.{Inside, Ahead, ahead-next}
 use Rattle.requests.proofs.Leads.{Leads, Beside, header-turn, payload-turn, payload-last}
 
@@ -71,9 +71,9 @@ module _ (c : Cfg) (g : ℕ → List ℕ → List ℕ) (mems : ℕ → List ℕ)
       (λ code q. rw (y, h, stage-more) (f code q))
 
   pub headed : Beside c g mems m → (ss : List Span) (stage hs : List ℕ) (p : Place) (i code : ℕ) → code ≡ 1 → length hs < 16 → 16 - length hs ≤ total ss → Inside m ss → Ahead chain p ss
-      → Decides stage (i + length (up_to (16 - length hs) ss)) (hs ++ gatherFrom mems (suc i) (up_to (16 - length hs) ss)) (past (16 - length hs) ss)
+      → Decides stage (i + length (up_to (16 - length hs) ss)) (hs ++ gather_from mems (suc i) (up_to (16 - length hs) ss)) (past (16 - length hs) ss)
       → Leads c g F (suc i) (out t a descs (Header k p (length hs)) (mems i) b chain (put stage 0 hs) code)
-  unfolding total Inside Decides up_to past gatherFrom gathered onward
+  unfolding total Inside Decides up_to past gather_from gathered onward
   headed e [] stage hs p i code q l h n w d = absurd (omega arith)
   headed e (s ∷ ss) stage hs p i code q l h n w d =
       go (leb (16 - length hs) s.len) refl d
@@ -81,10 +81,10 @@ module _ (c : Cfg) (g : ℕ → List ℕ → List ℕ) (mems : ℕ → List ℕ)
     where
       go : (v : Bool) → leb (16 - length hs) s.len ≡ v
           → Decides stage (i + length (pick v (record { at = s.at; len = 16 - length hs } ∷ []) (s ∷ up_to (16 - length hs - s.len) ss)))
-          (hs ++ gatherFrom mems (suc i) (pick v (record { at = s.at; len = 16 - length hs } ∷ []) (s ∷ up_to (16 - length hs - s.len) ss)))
+          (hs ++ gather_from mems (suc i) (pick v (record { at = s.at; len = 16 - length hs } ∷ []) (s ∷ up_to (16 - length hs - s.len) ss)))
           (pick v (pick (eqb (16 - length hs) s.len) ss (record { at = s.at + (16 - length hs); len = s.len - (16 - length hs) } ∷ ss)) (past (16 - length hs - s.len) ss))
           → ((bs : List ℕ) (code : ℕ) → code ≡ 1 → length (hs ++ bs) < 16 → 16 - length (hs ++ bs) ≤ total ss
-          → Decides stage (suc i + length (up_to (16 - length (hs ++ bs)) ss)) ((hs ++ bs) ++ gatherFrom mems (suc (suc i)) (up_to (16 - length (hs ++ bs)) ss)) (past (16 - length (hs ++ bs)) ss)
+          → Decides stage (suc i + length (up_to (16 - length (hs ++ bs)) ss)) ((hs ++ bs) ++ gather_from mems (suc (suc i)) (up_to (16 - length (hs ++ bs)) ss)) (past (16 - length (hs ++ bs)) ss)
           → Leads c g F (suc (suc i)) (out t a descs (Header k (record { buf = p.buf + 1; skip = 0 }) (length (hs ++ bs))) (mems (suc i)) b chain (put stage 0 (hs ++ bs)) code))
           → Leads c g F (suc i) (out t a descs (Header k p (length hs)) (mems i) b chain (put stage 0 hs) code)
       go true v d ih =
@@ -112,9 +112,9 @@ module _ (c : Cfg) (g : ℕ → List ℕ → List ℕ) (mems : ℕ → List ℕ)
   pub paid-out : Beside c g mems m → (s : Span) (ss : List Span) (stage hs : List ℕ) (p : Place) (sector i code : ℕ) → code ≡ 1 → length hs + total (s ∷ ss) ≡ k.r - 16 → k.r - 16 ≤ length stage
       → Inside m (s ∷ ss) → Ahead chain p (s ∷ ss)
       → ((stage : List ℕ) (code : ℕ) → code ≡ 1 → Leads c g F (suc (i + length (s ∷ ss)))
-      (out t a descs (Answer k Done k.r) (mems (i + length (s ∷ ss))) (put b (c.disk.start + 512 * sector) (hs ++ gatherFrom mems (suc i) (s ∷ ss))) chain stage code))
+      (out t a descs (Answer k Done k.r) (mems (i + length (s ∷ ss))) (put b (c.disk.start + 512 * sector) (hs ++ gather_from mems (suc i) (s ∷ ss))) chain stage code))
       → Leads c g F (suc i) (out t a descs (Payload k p sector (length hs)) (mems i) b chain (put stage 0 hs) code)
-  unfolding total Inside gatherFrom
+  unfolding total Inside gather_from
   paid-out e s [] stage hs p sector i code q h r n w f =
       let bs : List ℕ = part s.at s.len (mems (suc i)) in
       let x = ahead-at chain p s [] w in

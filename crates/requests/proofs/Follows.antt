@@ -9,8 +9,8 @@ use lib.ListN.{length, length-append}
 use borrow.Author.Tests.{leb-false, ltb-false, eqb-false}
 use Rattle.model.specs.Pick.{both}
 use Rattle.model.specs.Memory.{Region, locate, sound}
-use Rattle.model.specs.Chain.{descAt, testedBy, tested, tally, held, complete, described, descsAfter, keeps}
-use Rattle.model.specs.Step.{Cfg, Span, Out, spans, codeAfter}
+use Rattle.model.specs.Chain.{desc_at, tested_by, tested, tally, held, complete, described, descs_after, keeps}
+use Rattle.model.specs.Step.{Cfg, Span, Out, spans, code_after}
 use Rattle.model.specs.declared.Found.{Found}
 use Rattle.model.specs.declared.Found.TheVariants.{At, Nothing}
 use Rattle.model.specs.declared.Desc.{Desc}
@@ -40,8 +40,8 @@ record Passed (many empty : Bool) (f : Found) (late : Bool) (x : ℕ) : Type 0 w
   located : f ≡ At x
   in_order : late ≡ false
 
-passed-next : (a s e : Bool) (f : Found) (l n g : Bool) (x : ℕ) → testedBy a s e f l n g ≡ Next x → Passed a e f l x
-unfolding testedBy
+passed-next : (a s e : Bool) (f : Found) (l n g : Bool) (x : ℕ) → tested_by a s e f l n g ≡ Next x → Passed a e f l x
+unfolding tested_by
 passed-next true s e f l n g x h = let z : ◌≡◌ {A = ℕ} 0 1 = cc in absurd (omega arith)
 passed-next false true e f l n g x h = let z : ◌≡◌ {A = ℕ} 0 1 = cc in absurd (omega arith)
 passed-next false false true f l n g x h = let z : ◌≡◌ {A = ℕ} 0 1 = cc in absurd (omega arith)
@@ -51,8 +51,8 @@ passed-next false false false (At y) false true g x h = let z : ◌≡◌ {A = �
 passed-next false false false (At y) false false true x h = let z : ◌≡◌ {A = ℕ} 0 1 = cc in absurd (omega arith)
 passed-next false false false (At y) false false false x h = record { some_left = refl; some_bytes = refl; located = cc; in_order = refl }
 
-passed-last : (a s e : Bool) (f : Found) (l n g : Bool) (x : ℕ) → testedBy a s e f l n g ≡ Last x → Passed a e f l x
-unfolding testedBy
+passed-last : (a s e : Bool) (f : Found) (l n g : Bool) (x : ℕ) → tested_by a s e f l n g ≡ Last x → Passed a e f l x
+unfolding tested_by
 passed-last true s e f l n g x h = let z : ◌≡◌ {A = ℕ} 0 1 = cc in absurd (omega arith)
 passed-last false true e f l n g x h = let z : ◌≡◌ {A = ℕ} 0 1 = cc in absurd (omega arith)
 passed-last false false true f l n g x h = let z : ◌≡◌ {A = ℕ} 0 1 = cc in absurd (omega arith)
@@ -149,7 +149,7 @@ module _ (c : Cfg) (g : ℕ → List ℕ → List ℕ) (mems : ℕ → List ℕ)
       (i : ℕ) (chain : List ℕ) → suc i ≡ 2 + n → reason ≤ 7 → Leads c g F (suc i) (out t a descs (Broken reason head n at) (mems i) b chain stage 3)
   Goes (whole rs ws last) =
       (i : ℕ) (chain : List ℕ) → suc i ≡ 2 + (length rs + length ws) → Held m c.queue.size chain rs ws
-      → Leads c g F (suc i) (out t a (length rs + length ws) (complete (walk head rs ws) last) (mems i) b chain stage (codeAfter (complete (walk head rs ws) last)))
+      → Leads c g F (suc i) (out t a (length rs + length ws) (complete (walk head rs ws) last) (mems i) b chain stage (code_after (complete (walk head rs ws) last)))
 
   -- from a chain of which these buffers are held, at most f descriptors more
   unfoldable pub Takes : ℕ → Type 0
@@ -159,9 +159,9 @@ module _ (c : Cfg) (g : ℕ → List ℕ → List ℕ) (mems : ℕ → List ℕ)
       → Leads c g F (suc i) (out t a descs (Chain (walk head rs ws) n) (mems i) b chain stage code)
 
   one_more : Beside c g mems m → (f : ℕ) → Takes f → Takes (suc f)
-  unfolding Takes Goes follow changing tested walk described descsAfter keeps linked codeAfter
+  unfolding Takes Goes follow changing tested walk described descs_after keeps linked code_after
   one_more e f ih n rs ws i chain code q h s l hd k =
-      let d : Desc = descAt (c.queue.desc + 16 * n) (mems (2 + (length rs + length ws))) in
+      let d : Desc = desc_at (c.queue.desc + 16 * n) (mems (2 + (length rs + length ws))) in
       chain-turn c g mems F t a descs b i (walk head rs ws) n chain stage code q (e.goes_on i) d (rw h)
       (go d (tested c.map c.queue.size (walk head rs ws) d) refl k)
     where
@@ -169,7 +169,7 @@ module _ (c : Cfg) (g : ℕ → List ℕ → List ℕ) (mems : ℕ → List ℕ)
       more = λ j xs ys. follow c (changing c.queue t mems) head f j xs ys
 
       go : (d : Desc) (x : Tested) → tested c.map c.queue.size (walk head rs ws) d ≡ x → Goes (linked more n d rs ws x)
-          → Leads c g F (suc (suc i)) (out t a (descsAfter descs (walk head rs ws) x) (described (walk head rs ws) n d x) (mems (suc i)) b (keeps chain (walk head rs ws) d x) stage (codeAfter (described (walk head rs ws) n d x)))
+          → Leads c g F (suc (suc i)) (out t a (descs_after descs (walk head rs ws) x) (described (walk head rs ws) n d x) (mems (suc i)) b (keeps chain (walk head rs ws) d x) stage (code_after (described (walk head rs ws) n d x)))
       go d (Bad r) u k = k (suc i) chain (omega arith) (bad-reason (leb c.queue.size (length rs + length ws)) _ _ _ _ _ _ r u).1
       go d (Next x) u k =
           let p = passed-next (leb c.queue.size (length rs + length ws)) _ _ _ _ _ _ x u in

@@ -15,9 +15,9 @@ use Rattle.model.specs.Step.{Span, buffer, left, spans}
 use Rattle.model.specs.declared.Place.{Place}
 use Rattle.model.proofs.Tests.{told}
 use Rattle.model.proofs.Lists.{put-below, put_in, part-add, length_part}
-use Rattle.requests.specs.Serve.{gather, total, lastByte}
+use Rattle.requests.specs.Serve.{gather, total, last_byte_at}
 use Rattle.requests.specs.Steps.{up_to, past}
-use Rattle.requests.specs.Guest.{gatherFrom}
+use Rattle.requests.specs.Guest.{gather_from}
 
 -- words put behind some buffers leave them ..
 pub spans-keep : (n i : ℕ) (chain : List ℕ) (j : ℕ) (bs : List ℕ) → i + n ≤ j → spans n i (put chain (2 * j) bs) ≡ spans n i chain
@@ -46,8 +46,8 @@ spans-push (s ∷ ss) i chain x l e h =
 
 -- the last byte of the last buffer
 pub last-is : (s : Span) (ss : List Span) (i : ℕ) (chain : List ℕ) → spans (suc (length ss)) i chain ≡ s ∷ ss
-    → get_or chain (2 * (i + length ss)) 0 + (get_or chain (2 * (i + length ss) + 1) 0 - 1) ≡ lastByte (s ∷ ss)
-unfolding spans lastByte
+    → get_or chain (2 * (i + length ss)) 0 + (get_or chain (2 * (i + length ss) + 1) 0 - 1) ≡ last_byte_at (s ∷ ss)
+unfolding spans last_byte_at
 last-is s [] i chain e =
     let a : buffer chain i ≡ s = cc in
     let p : get_or chain (2 * i) 0 ≡ s.at = ap (λ (x : Span). x.at) a in
@@ -90,18 +90,18 @@ ahead-next chain i (s ∷ ss) e =
 
 -- the first n bytes of some buffers, as fetched, are n bytes; the others are in memory too, and are as many as are left
 pub length-up-to : (m : ℕ) (mems : ℕ → List ℕ) → ((j : ℕ) → length (mems j) ≡ m) → (ss : List Span) (n i : ℕ) → n ≤ total ss → Inside m ss
-    → length (gatherFrom mems i (up_to n ss)) ≡ n
-unfolding total Inside up_to gatherFrom
+    → length (gather_from mems i (up_to n ss)) ≡ n
+unfolding total Inside up_to gather_from
 length-up-to m mems h [] n i l k = omega arith
 length-up-to m mems h (s ∷ ss) n i l k = go (leb n s.len) refl (λ u. length-up-to m mems h ss (n - s.len) (suc i) u k.2)
   where
-    go : (v : Bool) → leb n s.len ≡ v → (n - s.len ≤ total ss → length (gatherFrom mems (suc i) (up_to (n - s.len) ss)) ≡ n - s.len)
-        → length (gatherFrom mems i (pick v (record { at = s.at; len = n } ∷ []) (s ∷ up_to (n - s.len) ss))) ≡ n
+    go : (v : Bool) → leb n s.len ≡ v → (n - s.len ≤ total ss → length (gather_from mems (suc i) (up_to (n - s.len) ss)) ≡ n - s.len)
+        → length (gather_from mems i (pick v (record { at = s.at; len = n } ∷ []) (s ∷ up_to (n - s.len) ss))) ≡ n
     go true v f = let u = leb-true n s.len v in rw append-nil (length_part s.at n (mems i) (omega (arith, h i)))
     go false v f =
         let u = leb-false n s.len v in
         let p = length_part s.at s.len (mems i) (omega (arith, h i)) in
-        omega (arith, length-append (part s.at s.len (mems i)) (gatherFrom mems (suc i) (up_to (n - s.len) ss)), f (omega arith))
+        omega (arith, length-append (part s.at s.len (mems i)) (gather_from mems (suc i) (up_to (n - s.len) ss)), f (omega arith))
 
 pub inside_past : (m : ℕ) (ss : List Span) (n : ℕ) → Inside m ss → Inside m (past n ss)
 unfolding Inside past
@@ -125,21 +125,21 @@ total-past (s ∷ ss) n h = go (leb n s.len) refl (eqb n s.len) refl (λ l. tota
     go true v false u f = omega told
     go false v u w f = let l = leb-false n s.len v in omega (arith, f (omega arith))
 
-still-gather : (m : List ℕ) (ss : List Span) (i : ℕ) → gatherFrom (λ x. m) i ss ≡ gather m ss
-unfolding gather gatherFrom
+still-gather : (m : List ℕ) (ss : List Span) (i : ℕ) → gather_from (λ x. m) i ss ≡ gather m ss
+unfolding gather gather_from
 still-gather m [] i = refl
 still-gather m (s ∷ ss) i = rw (still-gather m ss (suc i))
 
 -- in a memory that is held still, the first n bytes and the others are all of the string
-pub gather-cut : (m : List ℕ) (ss : List Span) (n i j : ℕ) → gatherFrom (λ x. m) i (up_to n ss) ++ gatherFrom (λ x. m) j (past n ss) ≡ gather m ss
-unfolding gather gatherFrom up_to past
+pub gather-cut : (m : List ℕ) (ss : List Span) (n i j : ℕ) → gather_from (λ x. m) i (up_to n ss) ++ gather_from (λ x. m) j (past n ss) ≡ gather m ss
+unfolding gather gather_from up_to past
 gather-cut m [] n i j = refl
 gather-cut m (s ∷ ss) n i j = go (leb n s.len) refl (eqb n s.len) refl (gather-cut m ss (n - s.len) (suc i) j)
   where
     go : (v : Bool) → leb n s.len ≡ v → (u : Bool) → eqb n s.len ≡ u
-        → gatherFrom (λ x. m) (suc i) (up_to (n - s.len) ss) ++ gatherFrom (λ x. m) j (past (n - s.len) ss) ≡ gather m ss
-        → gatherFrom (λ x. m) i (pick v (record { at = s.at; len = n } ∷ []) (s ∷ up_to (n - s.len) ss))
-        ++ gatherFrom (λ x. m) j (pick v (pick u ss (record { at = s.at + n; len = s.len - n } ∷ ss)) (past (n - s.len) ss))
+        → gather_from (λ x. m) (suc i) (up_to (n - s.len) ss) ++ gather_from (λ x. m) j (past (n - s.len) ss) ≡ gather m ss
+        → gather_from (λ x. m) i (pick v (record { at = s.at; len = n } ∷ []) (s ∷ up_to (n - s.len) ss))
+        ++ gather_from (λ x. m) j (pick v (pick u ss (record { at = s.at + n; len = s.len - n } ∷ ss)) (past (n - s.len) ss))
         ≡ part s.at s.len m ++ gather m ss
     go true v true u r =
         let e : n ≡ s.len = eqb-true n s.len u in

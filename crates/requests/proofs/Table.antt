@@ -6,7 +6,7 @@ use mathlib.Core.Path.{◌≡◌, refl}
 use lib.Dec.{leb, ltb, eqb}
 use borrow.Author.Tests.{ltb-true, ltb-false, leb-true, eqb-true, eqb-false, le-ltb, le-leb, eq-eqb, ne_eqb}
 use Rattle.model.specs.Pick.{pick, both}
-use Rattle.model.specs.Request.{fits, inOk, outOk, exactly, verdict, status}
+use Rattle.model.specs.Request.{fits, in_ok, out_ok, exactly, verdict, status}
 use Rattle.model.specs.declared.Disk.{Disk}
 use Rattle.model.specs.declared.Job.{Job}
 use Rattle.model.specs.declared.Job.TheVariants.{Failed, Unsupported, Done, Read, Write, Identity}
@@ -28,7 +28,7 @@ true-fit n sector c f =
 
 -- a form that is accepted gets its answer ..
 pub accepted-served : (d : Disk) (type sector r w : ℕ) (job : Job) → Accepted d type sector r w job → (verdict d type sector r w ≡ job) × (status job ≡ 0)
-unfolding verdict inOk outOk exactly status
+unfolding verdict in_ok out_ok exactly status
 accepted-served d type sector r w job (reads t l f) =
     (rw (le-ltb r 16 (omega arith), eq-eqb type 0 t, eq-eqb r 16 l, true-fit (w - 1) sector d.sectors f), refl)
 accepted-served d type sector r w job (writes t l o f n) =
@@ -40,7 +40,7 @@ accepted-served d type sector r w job (tells t l o) =
 
 -- .. and what gets status 0 is of an accepted form
 pub served-accepted : (d : Disk) (type sector r w : ℕ) → status (verdict d type sector r w) ≡ 0 → Accepted d type sector r w (verdict d type sector r w)
-unfolding verdict inOk outOk exactly status
+unfolding verdict in_ok out_ok exactly status
 served-accepted d type sector r w =
     let P : Job → Type 0 = λ j. status j ≡ 0 → Accepted d type sector r w j in
     on P (ltb r 16) (λ a h. absurd (omega arith))
@@ -72,7 +72,7 @@ other-unsupported d type sector r w o =
     rw (le-ltb r 16 o.headed, ne_eqb type 0 o.not_in, ne_eqb type 1 o.not-out, ne_eqb type 4 o.not-flush, ne_eqb type 8 o.not-id)
 
 pub unsupported-other : (d : Disk) (type sector r w : ℕ) → status (verdict d type sector r w) ≡ 2 → Other type r
-unfolding verdict inOk outOk exactly status
+unfolding verdict in_ok out_ok exactly status
 unsupported-other d type sector r w =
     let P : Job → Type 0 = λ j. status j ≡ 2 → Other type r in
     on P (ltb r 16) (λ a h. absurd (omega arith))

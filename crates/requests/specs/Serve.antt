@@ -2,10 +2,10 @@
 use Rattle.std.specs.Prelude.{ℕ, zero, suc, ◌+◌, ◌-◌, ◌*◌, ◌%◌, List, [], ◌∷◌, ◌++◌, leb, ltb, eqb, length, drop}
 use Rattle.model.specs.Pick.{pick}
 use Rattle.model.specs.Bytes.{put, part, word, bytes}
-use Rattle.model.specs.Ring.{pending, oneMore, elsewhere}
-use Rattle.model.specs.Chain.{descAt, tested}
+use Rattle.model.specs.Ring.{pending, plus_one, elsewhere}
+use Rattle.model.specs.Chain.{desc_at, tested}
 use Rattle.model.specs.Request.{verdict, status, reported}
-use Rattle.model.specs.Step.{Cfg, Span, Store, apply, scatter, handed, usedAt, diskOf}
+use Rattle.model.specs.Step.{Cfg, Span, Store, apply, scatter, handed, used_at, disk_of}
 use Rattle.model.specs.declared.Queue.{Queue}
 use Rattle.model.specs.declared.Disk.{Disk}
 use Rattle.model.specs.declared.Desc.{Desc}
@@ -34,7 +34,7 @@ still q taken m =
     record {
       idx = word 2 (q.avail + 2) m;
       entry = word 2 (q.avail + (4 + 2 * (taken % q.size))) m;
-      desc = λ j n. descAt (q.desc + 16 * n) m;
+      desc = λ j n. desc_at (q.desc + 16 * n) m;
       string = λ rs ws. gather m rs;
     }
 
@@ -70,10 +70,10 @@ follow c v head (suc f) n rs ws =
     (tested c.map c.queue.size (walk head rs ws) (v.desc (length rs + length ws) n))
 
 -- "The status byte is always written, to the last writable byte."
-unfoldable pub lastByte : List Span → ℕ
-lastByte [] = 0
-lastByte (s ∷ []) = s.at + (s.len - 1)
-lastByte (s ∷ t ∷ ss) = lastByte (t ∷ ss)
+unfoldable pub last_byte_at : List Span → ℕ
+last_byte_at [] = 0
+last_byte_at (s ∷ []) = s.at + (s.len - 1)
+last_byte_at (s ∷ t ∷ ss) = last_byte_at (t ∷ ss)
 
 -- "The first 16 readable bytes are the header: type u32, reserved u32 (ignored), sector u64."
 unfoldable pub job_of : Disk → List ℕ → ℕ → ℕ → Job
@@ -100,10 +100,10 @@ pub data Outcome : Type 0 where
 unfoldable pub answer : Cfg → ℕ → List ℕ → ℕ → List Span → List Span → List ℕ → Job → Outcome
 answer c answered backing head rs ws string job =
     serves
-    (scatter ws (handed c.id (diskOf c.disk backing) (walk head rs ws) job)
-    ++ (record { to = lastByte ws; bytes = status job ∷ [] }
-    ∷ record { to = usedAt c.queue answered; bytes = bytes 4 head ++ bytes 4 (reported (status job) (total ws)) } ∷ []))
-    (record { to = c.queue.used + 2; bytes = bytes 2 (oneMore answered) })
+    (scatter ws (handed c.id (disk_of c.disk backing) (walk head rs ws) job)
+    ++ (record { to = last_byte_at ws; bytes = status job ∷ [] }
+    ∷ record { to = used_at c.queue answered; bytes = bytes 4 head ++ bytes 4 (reported (status job) (total ws)) } ∷ []))
+    (record { to = c.queue.used + 2; bytes = bytes 2 (plus_one answered) })
     (stored c.disk job (drop 16 string) backing) head (reported (status job) (total ws)) (length rs + length ws)
 
 -- "No writable buffer in the chain: reason 8 .. The request is carried out (document 03)."
@@ -122,12 +122,12 @@ serve c v taken answered backing =
     (carried c v answered backing v.entry (follow c v v.entry (c.queue.size + 1) v.entry [] []))))
 
 -- the guest memory and the backing slice that it leaves, nobody else touching them
-unfoldable pub memoryAfter : Outcome → List ℕ → List ℕ
-memoryAfter idle m = m
-memoryAfter (breaks reason head fetched at) m = m
-memoryAfter (serves writes idx after head len descs) m = apply (writes ++ (idx ∷ [])) m
+unfoldable pub memory_after : Outcome → List ℕ → List ℕ
+memory_after idle m = m
+memory_after (breaks reason head fetched at) m = m
+memory_after (serves writes idx after head len descs) m = apply (writes ++ (idx ∷ [])) m
 
-unfoldable pub backingAfter : Outcome → List ℕ → List ℕ
-backingAfter idle b = b
-backingAfter (breaks reason head fetched at) b = b
-backingAfter (serves writes idx after head len descs) b = after
+unfoldable pub backing_after : Outcome → List ℕ → List ℕ
+backing_after idle b = b
+backing_after (breaks reason head fetched at) b = b
+backing_after (serves writes idx after head len descs) b = after

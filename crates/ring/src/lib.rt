@@ -2,14 +2,14 @@
 ghost use Rattle.std.specs.Prelude.{◌≡◌, true, ◌++◌, ◌+◌, ◌*◌, ◌%◌, ◌≤◌, ◌<◌, length};
 ghost use Rattle.model.specs.Bytes.{put, word, bytes};
 ghost use Rattle.model.specs.Memory.{regions, sound};
-ghost use Rattle.model.specs.Ring.{sizeOk, aligned, entangled, placed, areas, pending, oneMore, polled, headed, sizeMax};
-ghost use Rattle.model.specs.Step.{usedAt};
+ghost use Rattle.model.specs.Ring.{queue_size_ok, aligned, entangled, placed, areas, pending, plus_one, polled, headed, size_max};
+ghost use Rattle.model.specs.Step.{used_at};
 
 use model::{Areas, Found, Phase, Queue, Walk};
 
 // A power of two from 1 to 1,024 (DEV-13).
 pub fn size_ok(q: usize) -> bool
-    ensures { result ≡ sizeOk q }
+    ensures { result ≡ queue_size_ok q }
 {
     if q == 1 {
         return true;
@@ -60,7 +60,7 @@ fn aligned(desc: usize, avail: usize, used: usize) -> bool
 }
 
 fn entangled(q: usize, desc: usize, avail: usize, used: usize) -> bool
-    requires { q ≤ sizeMax }
+    requires { q ≤ size_max }
     ensures { result ≡ entangled q desc avail used }
 {
     if regions::overlaps(used, 6 + 8 * q, avail, 6 + 2 * q) {
@@ -121,7 +121,7 @@ pub fn pending(idx: usize, taken: usize) -> usize
 
 pub fn one_more(n: usize) -> usize
     requires { n < 65536 }
-    ensures { result ≡ oneMore n }
+    ensures { result ≡ plus_one n }
 {
     (n + 1) % 65536
 }
@@ -182,7 +182,7 @@ pub fn avail_entry(mem: &[u8], avail: usize, q: usize, taken: usize) -> usize
 pub fn used_entry(mem: &mut [u8], queue: Queue, answered: usize, head: usize, len: usize)
     requires le_size { 1 ≤ queue.size }
     requires size_in_bounds { queue.used + (6 + 8 * queue.size) ≤ length mem.old }
-    ensures { mem.new ≡ put mem.old (usedAt queue answered) (bytes 4 head ++ bytes 4 len) }
+    ensures { mem.new ≡ put mem.old (used_at queue answered) (bytes 4 head ++ bytes 4 len) }
 {
     let used = queue.used;
     let q = queue.size;

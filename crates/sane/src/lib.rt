@@ -1,14 +1,14 @@
 // What a call tests of words that anybody may have spoilt, before it acts on them.
 ghost use Rattle.std.specs.Prelude.{◌≡◌, true, ◌+◌, ◌-◌, ◌*◌, ◌≤◌, ◌<◌, length};
-ghost use Rattle.model.specs.Ring.{sizeMax};
-ghost use Rattle.model.specs.Sane.{walkOk, fullOk, jobOk, refusedAt, sane, inside, allInside, placeOk, ready};
+ghost use Rattle.model.specs.Ring.{size_max};
+ghost use Rattle.model.specs.Sane.{walk_ok, full_ok, job_ok, refused_at, sane, inside, all_inside, place_is_ok, ready};
 ghost use Rattle.model.specs.Step.{spans};
 
 use model::{Job, Phase, Place, Walk};
 
 pub fn walk_ok(q: usize, k: Walk) -> bool
-    requires { q ≤ sizeMax }
-    ensures { result ≡ walkOk q k }
+    requires { q ≤ size_max }
+    ensures { result ≡ walk_ok q k }
 {
     if q <= k.head {
         return false;
@@ -26,8 +26,8 @@ pub fn walk_ok(q: usize, k: Walk) -> bool
 }
 
 pub fn full_ok(q: usize, k: Walk) -> bool
-    requires { q ≤ sizeMax }
-    ensures { result ≡ fullOk q k }
+    requires { q ≤ size_max }
+    ensures { result ≡ full_ok q k }
 {
     if walk_ok(q, k) {
         if k.reads < k.count {
@@ -40,7 +40,7 @@ pub fn full_ok(q: usize, k: Walk) -> bool
 
 fn job_ok(sectors: usize, k: Walk, job: Job) -> bool
     requires { 1 ≤ k.w }
-    ensures { result ≡ jobOk sectors k job }
+    ensures { result ≡ job_ok sectors k job }
 {
     match job {
         Job::Failed => true,
@@ -53,7 +53,7 @@ fn job_ok(sectors: usize, k: Walk, job: Job) -> bool
 }
 
 pub fn chain_sane(q: usize, k: Walk, cur: usize) -> bool
-    requires { q ≤ sizeMax }
+    requires { q ≤ size_max }
     ensures { result ≡ sane q 0 (Phase.Chain k cur) }
 {
     if walk_ok(q, k) {
@@ -63,7 +63,7 @@ pub fn chain_sane(q: usize, k: Walk, cur: usize) -> bool
 }
 
 pub fn header_sane(q: usize, k: Walk, p: Place, got: usize) -> bool
-    requires { q ≤ sizeMax }
+    requires { q ≤ size_max }
     ensures { result ≡ sane q 0 (Phase.Header k p got) }
 {
     if full_ok(q, k) {
@@ -79,7 +79,7 @@ pub fn header_sane(q: usize, k: Walk, p: Place, got: usize) -> bool
 }
 
 pub fn payload_sane(q: usize, sectors: usize, k: Walk, p: Place, s: usize, got: usize) -> bool
-    requires { q ≤ sizeMax }
+    requires { q ≤ size_max }
     ensures { result ≡ sane q sectors (Phase.Payload k p s got) }
 {
     if full_ok(q, k) {
@@ -98,7 +98,7 @@ pub fn payload_sane(q: usize, sectors: usize, k: Walk, p: Place, s: usize, got: 
 }
 
 pub fn answer_sane(q: usize, sectors: usize, k: Walk, job: Job, got: usize) -> bool
-    requires { q ≤ sizeMax }
+    requires { q ≤ size_max }
     ensures { result ≡ sane q sectors (Phase.Answer k job got) }
 {
     if full_ok(q, k) {
@@ -111,7 +111,7 @@ pub fn answer_sane(q: usize, sectors: usize, k: Walk, job: Job, got: usize) -> b
 }
 
 pub fn publish_sane(q: usize, k: Walk, got: usize) -> bool
-    requires { q ≤ sizeMax }
+    requires { q ≤ size_max }
     ensures { result ≡ sane q 0 (Phase.Publish k got) }
 {
     if full_ok(q, k) {
@@ -122,7 +122,7 @@ pub fn publish_sane(q: usize, k: Walk, got: usize) -> bool
 
 // The descriptor at which a chain was refused (DEV-12): one of the table, if one was fetched.
 fn refused_at(q: usize, count: usize, at: usize) -> bool
-    ensures { result ≡ refusedAt q count at }
+    ensures { result ≡ refused_at q count at }
 {
     if count == 0 {
         return at == 65536;
@@ -131,7 +131,7 @@ fn refused_at(q: usize, count: usize, at: usize) -> bool
 }
 
 pub fn broken_sane(q: usize, reason: usize, head: usize, count: usize, at: usize) -> bool
-    requires { q ≤ sizeMax }
+    requires { q ≤ size_max }
     ensures { result ≡ sane q 0 (Phase.Broken reason head count at) }
 {
     if reason < 1 {
@@ -151,7 +151,7 @@ pub fn broken_sane(q: usize, reason: usize, head: usize, count: usize, at: usize
 
 // Is this a phase that steps make, on a queue of size q and a disk of so many sectors?
 pub fn sane(q: usize, sectors: usize, p: Phase) -> bool
-    requires { q ≤ sizeMax }
+    requires { q ≤ size_max }
     ensures { result ≡ sane q sectors p }
 {
     match p {
@@ -181,7 +181,7 @@ pub fn inside(m: usize, at: usize, len: usize) -> bool
 // Do the buffers of the chain from `first` up to `end` lie in a slice of m bytes?
 pub fn all_inside(m: usize, chain: &[usize], first: usize, end: usize) -> bool
     requires { 2 * end ≤ length chain.now }
-    ensures { result ≡ allInside m (spans (end - first) first chain.now) }
+    ensures { result ≡ all_inside m (spans (end - first) first chain.now) }
 {
     let mut i = first;
     while i < end {
@@ -196,7 +196,7 @@ pub fn all_inside(m: usize, chain: &[usize], first: usize, end: usize) -> bool
 
 pub fn place_ok(m: usize, chain: &[usize], p: Place) -> bool
     requires { 2 * p.buf + 1 < length chain.now }
-    ensures { result ≡ placeOk m chain.now p }
+    ensures { result ≡ place_is_ok m chain.now p }
 {
     let i = p.buf;
     let len = chain[2 * i + 1];

@@ -3,10 +3,10 @@ use Prim.Native.Nat.{ℕ, zero, suc, ◌+◌, ◌<◌}
 use mathlib.Core.List.{List, [], ◌∷◌, ◌++◌}
 use lib.ListN.{get_or}
 use Rattle.model.specs.Bytes.{put, bytes}
-use Rattle.model.specs.Ring.{oneMore}
+use Rattle.model.specs.Ring.{plus_one}
 use Rattle.model.specs.Step.{apply, scatter, spans}
 use Rattle.model.specs.declared.Queue.{Queue}
-use Rattle.driver.specs.Lay.{header, descriptor, link, links, availAt, layStores}
+use Rattle.driver.specs.Lay.{header, descriptor, link, links, avail_at, lay_stores}
 use Rattle.trips.specs.Stands.{published}
 use Rattle.trip.proofs.Octets.{Octets, octets-at, octets-of, octets-put, octets-append, octets-bytes, Written, written-append, octets-apply, written-scatter}
 
@@ -26,12 +26,12 @@ unfolding header
 octets-header kind sector =
     octets-append (bytes 4 kind) (bytes 4 0 ++ bytes 8 sector) (octets-bytes 4 kind) (octets-append (bytes 4 0) (bytes 8 sector) (octets-bytes 4 0) (octets-bytes 8 sector))
 
-octets-stores : (q : Queue) (t : ℕ) (message : List ℕ) (reads e : ℕ) (bufs spots nums : List ℕ) → Octets message → Written (layStores q t message reads e bufs spots nums)
-unfolding layStores Written
+octets-stores : (q : Queue) (t : ℕ) (message : List ℕ) (reads e : ℕ) (bufs spots nums : List ℕ) → Octets message → Written (lay_stores q t message reads e bufs spots nums)
+unfolding lay_stores Written
 octets-stores q t message reads e bufs spots nums f =
-    written-append (scatter (spans reads 0 spots) message) (links bufs nums q.desc reads e e 0 ++ (record { to = availAt q t; bytes = bytes 2 (get_or nums 0 0) } ∷ []))
+    written-append (scatter (spans reads 0 spots) message) (links bufs nums q.desc reads e e 0 ++ (record { to = avail_at q t; bytes = bytes 2 (get_or nums 0 0) } ∷ []))
     (written-scatter (spans reads 0 spots) message f)
-    (written-append (links bufs nums q.desc reads e e 0) (record { to = availAt q t; bytes = bytes 2 (get_or nums 0 0) } ∷ []) (octets-links bufs nums q.desc reads e e 0)
+    (written-append (links bufs nums q.desc reads e e 0) (record { to = avail_at q t; bytes = bytes 2 (get_or nums 0 0) } ∷ []) (octets-links bufs nums q.desc reads e e 0)
     (octets-bytes 2 (get_or nums 0 0), tt))
 
 abbrev pub AllBytes : List ℕ → Type 0
@@ -41,7 +41,7 @@ pub laid-bytes : (q : Queue) (t kind sector : ℕ) (message : List ℕ) (reads e
     → AllBytes (published q t (put message 0 (header kind sector)) reads e bufs spots nums mem)
 laid-bytes q t kind sector message reads e bufs spots nums mem f g =
     let string : List ℕ = put message 0 (header kind sector) in
-    let m₁ : List ℕ = apply (layStores q t string reads e bufs spots nums) mem in
+    let m₁ : List ℕ = apply (lay_stores q t string reads e bufs spots nums) mem in
     let s : Octets string = octets-put message 0 (header kind sector) (octets-of message f) (octets-header kind sector) in
-    let a : Octets m₁ = octets-apply (layStores q t string reads e bufs spots nums) mem (octets-stores q t string reads e bufs spots nums s) (octets-of mem g) in
-    octets-at (put m₁ (q.avail + 2) (bytes 2 (oneMore t))) (octets-put m₁ (q.avail + 2) (bytes 2 (oneMore t)) a (octets-bytes 2 (oneMore t)))
+    let a : Octets m₁ = octets-apply (lay_stores q t string reads e bufs spots nums) mem (octets-stores q t string reads e bufs spots nums s) (octets-of mem g) in
+    octets-at (put m₁ (q.avail + 2) (bytes 2 (plus_one t))) (octets-put m₁ (q.avail + 2) (bytes 2 (plus_one t)) a (octets-bytes 2 (plus_one t)))

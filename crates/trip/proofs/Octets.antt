@@ -5,7 +5,7 @@ use mathlib.Core.List.{List, [], ◌∷◌, ◌++◌}
 use lib.ListN.{get_or, take, drop}
 use Rattle.model.specs.Bytes.{put, part, bytes}
 use Rattle.model.specs.Request.{status, reported}
-use Rattle.model.specs.Step.{Cfg, State, Span, Store, Effect, nothing, stores, answers, publishes, apply, shifted, scatter, writables, handed, answerStores, memStores, diskStores, diskOf, effect, staged, ends, left, fetched, step, stepWith}
+use Rattle.model.specs.Step.{Cfg, State, Span, Store, Effect, nothing, stores, answers, publishes, apply, shifted, scatter, writables, handed, answer_stores, mem_stores, disk_stores, disk_of, effect, staged, ends, left, fetched, step, step_with}
 use Rattle.model.proofs.Tests.{on}
 use Rattle.model.specs.declared.Queue.{Queue}
 use Rattle.model.specs.declared.Walk.{Walk}
@@ -13,7 +13,7 @@ use Rattle.model.specs.declared.Job.{Job}
 use Rattle.model.specs.declared.Job.TheVariants.{Failed, Unsupported, Done, Read, Write, Identity}
 use Rattle.model.specs.declared.Phase.{Phase}
 use Rattle.model.specs.declared.Phase.TheVariants.{Poll, Entry, Chain, Header, Payload, Answer, Publish, Broken}
-use Rattle.answer.specs.Identity.{idBytes}
+use Rattle.answer.specs.Identity.{id_bytes}
 
 unfoldable pub Octets : List ℕ → Type 0
 Octets [] = Unit {0}
@@ -63,8 +63,8 @@ unfolding Octets bytes
 octets-bytes zero v = tt
 octets-bytes (suc n) v = (omega arith, octets-bytes n (v / 256))
 
-pub octets-id : (a b c : ℕ) → Octets (idBytes a b c)
-unfolding idBytes
+pub octets-id : (a b c : ℕ) → Octets (id_bytes a b c)
+unfolding id_bytes
 octets-id a b c = octets-append (bytes 8 a) (bytes 8 b ++ bytes 4 c) (octets-bytes 8 a) (octets-append (bytes 8 b) (bytes 4 c) (octets-bytes 8 b) (octets-bytes 4 c))
 
 -- .. of every write
@@ -110,27 +110,27 @@ status-low (Read s) = omega arith
 status-low (Write s) = omega arith
 status-low Identity = omega arith
 
-written-answer : (id : List ℕ) (q : Queue) (a : ℕ) (chain disk : List ℕ) (k : Walk) (job : Job) → Octets id → Octets disk → Written (answerStores id q a chain disk k job)
-unfolding answerStores Written Octets
+written-answer : (id : List ℕ) (q : Queue) (a : ℕ) (chain disk : List ℕ) (k : Walk) (job : Job) → Octets id → Octets disk → Written (answer_stores id q a chain disk k job)
+unfolding answer_stores Written Octets
 written-answer id q a chain disk k job i d =
     written-append (scatter (writables chain k) (handed id disk k job)) _ (written-scatter (writables chain k) (handed id disk k job) (octets-handed id disk k job i d))
     ((status-low job, tt), (octets-append (bytes 4 k.head) (bytes 4 (reported (status job) k.w)) (octets-bytes 4 k.head) (octets-bytes 4 (reported (status job) k.w)), tt))
 
-written-mem : (c : Cfg) (a : ℕ) (chain disk : List ℕ) (e : Effect) → Octets c.id → Octets disk → Written (memStores c a chain disk e)
-unfolding memStores Written
+written-mem : (c : Cfg) (a : ℕ) (chain disk : List ℕ) (e : Effect) → Octets c.id → Octets disk → Written (mem_stores c a chain disk e)
+unfolding mem_stores Written
 written-mem c a chain disk nothing i d = tt
 written-mem c a chain disk (stores at bs) i d = tt
 written-mem c a chain disk (answers k job) i d = written-answer c.id c.queue a chain disk k job i d
 written-mem c a chain disk publishes i d = (octets-bytes 2 _, tt)
 
-written-disk : (chain stage : List ℕ) (p : Phase) (f : List ℕ) → Octets stage → Octets f → Written (diskStores (effect chain stage p f))
-unfolding effect diskStores Written
+written-disk : (chain stage : List ℕ) (p : Phase) (f : List ℕ) → Octets stage → Octets f → Written (disk_stores (effect chain stage p f))
+unfolding effect disk_stores Written
 written-disk chain stage Poll f s h = tt
 written-disk chain stage Entry f s h = tt
 written-disk chain stage (Chain k cur) f s h = tt
 written-disk chain stage (Header k p got) f s h = tt
 written-disk chain stage (Payload k p sector got) f s h =
-    on (λ (x : Effect). Written (diskStores x)) (ends k got (left chain p).len) (λ e. (octets-append (part 0 got stage) f (octets-part 0 got stage s) h, tt)) (λ e. tt)
+    on (λ (x : Effect). Written (disk_stores x)) (ends k got (left chain p).len) (λ e. (octets-append (part 0 got stage) f (octets-part 0 got stage s) h, tt)) (λ e. tt)
 written-disk chain stage (Answer k job got) f s h = tt
 written-disk chain stage (Publish k got) f s h = tt
 written-disk chain stage (Broken reason head count at) f s h = tt
@@ -149,13 +149,13 @@ octets-staged chain stage (Broken reason head count at) f s h = s
 -- one step
 pub octets-step : (c : Cfg) (s : State) (mem backing chain stage : List ℕ) → Octets c.id → Octets mem → Octets backing → Octets stage
     → Octets (step c s mem backing chain stage).mem × Octets (step c s mem backing chain stage).backing × Octets (step c s mem backing chain stage).stage
-unfolding step stepWith
+unfolding step step_with
 octets-step c s mem backing chain stage i m b g =
     let f = fetched c s chain mem in
     let h : Octets f = octets-part _ _ mem m in
     let e = effect chain stage s.phase f in (
-      octets-apply (memStores c s.answered chain (diskOf c.disk backing) e) mem
-          (written-mem c s.answered chain (diskOf c.disk backing) e i (octets-part c.disk.start (512 * c.disk.sectors) backing b)) m,
-      octets-shifted c.disk.start (diskStores e) backing (written-disk chain stage s.phase f g h) b,
+      octets-apply (mem_stores c s.answered chain (disk_of c.disk backing) e) mem
+          (written-mem c s.answered chain (disk_of c.disk backing) e i (octets-part c.disk.start (512 * c.disk.sectors) backing b)) m,
+      octets-shifted c.disk.start (disk_stores e) backing (written-disk chain stage s.phase f g h) b,
       octets-staged chain stage s.phase f g h,
     )

@@ -11,7 +11,7 @@ use Rattle.trip.specs.declared.Exchanged.{Exchanged}
 use Rattle.trip.specs.declared.Exchanged.TheVariants.{Refused, Stuck, Done}
 use Rattle.trip.specs.declared.Trip.TheVariants.{Failed, Both}
 use Rattle.trip.specs.Exchange.{Exchange, ExchangeIs, lent, exchange}
-use Rattle.trip.specs.Round.{Round, asked, readBack, read_of, written, written_by, round}
+use Rattle.trip.specs.Round.{Round, asked, round_of, read_of, written, written_by, round}
 
 -- the slices that a call has left are those of its definition
 lent_is : (x : Exchange) (r : Exchanged) (state mem backing chain stage own message spots nums : List ℕ)
@@ -47,23 +47,23 @@ module _ (n : ℕ) (d : Driver) (own : List ℕ) (rs : List Region) (sector : �
   abbrev second : Exchange
   second = exchange n d₂ own₁ rs (asked 0 sector reads₂) header bufs₂ spots₁ nums₁ (untouched 1 state₁ mem₁ backing₁ chain₁ stage₁)
 
-  whole_is : whole ≡ readBack s reads₂ (length bufs₂ / 2) out second r₂
+  whole_is : whole ≡ round_of s reads₂ (length bufs₂ / 2) out second r₂
   unfolding round
   whole_is =
       written_is n rs sector header bufs₂ reads₂ out (exchange n d own rs (asked 1 sector reads) message bufs spots nums o) r state₁ mem₁ backing₁ chain₁ stage₁ own₁ message₁ spots₁ nums₁ d₂ s len x g
-      ∙ ap (λ (z : Exchanged). readBack s reads₂ (length bufs₂ / 2) out second z) (sym y.answer-is)
+      ∙ ap (λ (z : Exchanged). round_of s reads₂ (length bufs₂ / 2) out second z) (sym y.answer-is)
 
   -- the read was refused, or not answered ..
   pub read-refused : {k : ℕ} → r₂ ≡ Refused k → (Failed k ≡ whole.answer) × (out ≡ whole.out)
-  unfolding readBack
+  unfolding round_of
   read-refused h = rw (whole_is, h) (refl, refl)
 
   pub read-stuck : {k : ℕ} → r₂ ≡ Stuck k → (Failed k ≡ whole.answer) × (out ≡ whole.out)
-  unfolding readBack
+  unfolding round_of
   read-stuck h = rw (whole_is, h) (refl, refl)
 
   -- .. or its data are read
   pub read_done : {d₃ : Driver} {t len₂ : ℕ} {out₂ : List ℕ} → r₂ ≡ Done d₃ t len₂ → out₂ ≡ data_of mem₂ spots₂ reads₂ (length bufs₂ / 2) out
       → (Both s t ≡ whole.answer) × (out₂ ≡ whole.out)
-  unfolding readBack
+  unfolding round_of
   read_done h e = rw (whole_is, h) (refl, rw (← y.mem_is, ← y.spots-are) e)

@@ -4,7 +4,7 @@ use native.Mathlib.Omega.{arith}
 use mathlib.Core.List.{List}
 use mathlib.Core.Path.{◌≡◌, refl}
 use borrow.Author.Tests.{eq-eqb, ne_eqb}
-use Rattle.hostiledisk.specs.Calls.{Called, hdStep, untouched, StepIs}
+use Rattle.hostiledisk.specs.Calls.{Called, hd_step, untouched, StepIs}
 use Rattle.trip.specs.Until.{called, until}
 
 is-step : (o : Called) (r : ℕ) (s mem backing chain stage : List ℕ) → StepIs o r s mem backing chain stage → untouched r s mem backing chain stage ≡ o
@@ -20,7 +20,7 @@ until-last k o e = rw (ne_eqb (called o).code 1 e)
 
 -- the loop: a call that answers 1 leaves the rest to do ..
 pub goes_on : (n i : ℕ) (s mem backing chain stage : List ℕ) (r : ℕ) (s₂ mem₂ backing₂ chain₂ stage₂ : List ℕ) → i < n
-    → StepIs (hdStep s mem backing chain stage) r s₂ mem₂ backing₂ chain₂ stage₂ → r ≡ 1
+    → StepIs (hd_step s mem backing chain stage) r s₂ mem₂ backing₂ chain₂ stage₂ → r ≡ 1
     → until (n - i) (untouched 1 s mem backing chain stage) ≡ until (n - (i + 1)) (untouched 1 s₂ mem₂ backing₂ chain₂ stage₂)
 goes_on n i s mem backing chain stage r s₂ mem₂ backing₂ chain₂ stage₂ h x e =
     let o : Called = untouched 1 s mem backing chain stage in
@@ -30,7 +30,7 @@ goes_on n i s mem backing chain stage r s₂ mem₂ backing₂ chain₂ stage₂
 
 -- .. and any other is the last
 pub stops : (n i : ℕ) (s mem backing chain stage : List ℕ) (r : ℕ) (s₂ mem₂ backing₂ chain₂ stage₂ : List ℕ) → i < n
-    → StepIs (hdStep s mem backing chain stage) r s₂ mem₂ backing₂ chain₂ stage₂ → (r ≡ 1 → ⊥)
+    → StepIs (hd_step s mem backing chain stage) r s₂ mem₂ backing₂ chain₂ stage₂ → (r ≡ 1 → ⊥)
     → StepIs (until (n - i) (untouched 1 s mem backing chain stage)) r s₂ mem₂ backing₂ chain₂ stage₂
 stops n i s mem backing chain stage r s₂ mem₂ backing₂ chain₂ stage₂ h x e =
     let o : Called = untouched 1 s mem backing chain stage in

@@ -8,17 +8,17 @@ use lib.Dec.{leb, ltb, eqb}
 use lib.ListN.{get_or, length}
 use borrow.Author.Tests.{eqb-true, eq-eqb, ne_eqb, le-ltb}
 use Rattle.model.specs.Pick.{pick}
-use Rattle.model.specs.Memory.{Region, regionCode, sound}
+use Rattle.model.specs.Memory.{Region, region_code, sound}
 use Rattle.model.specs.Ring.{pending}
-use Rattle.model.specs.Step.{Cfg, State, Out, step, stepWith, effect, fetched, memStores, diskOf}
+use Rattle.model.specs.Step.{Cfg, State, Out, step, step_with, effect, fetched, mem_stores, disk_of}
 use Rattle.model.proofs.Tests.{on}
 use Rattle.model.proofs.Memory.{region-sound}
 use Rattle.model.proofs.Step.{length-apply}
 use Rattle.requests.specs.Serve.{Seen, still, Followed, broke, whole, Outcome, idle, breaks, serves, serve}
-use Rattle.requests.specs.Steps.{chainCalls, calls}
-use Rattle.requests.specs.Guest.{again, after, out, codeFor}
+use Rattle.requests.specs.Steps.{chain_calls, calls}
+use Rattle.requests.specs.Guest.{again, after, out, code_for}
 use Rattle.requests.proofs.Serves.{serves-still, quiet-still}
-use Rattle.words.specs.Layout.{configAt, rowAt, phaseOf, takenWord, answeredWord}
+use Rattle.words.specs.Layout.{config_at, row_at, phase_of, taken_word, answered_word}
 use Rattle.hostiledisk.specs.Calls.{Called, untouched, Going}
 use Rattle.hostiledisk.proofs.Laws.{fit_of}
 use Rattle.guarantees.specs.History.{World, ran, left}
@@ -41,9 +41,9 @@ record Same (c : Cfg) (n : ℕ) (o : Called) (u : Out) : Type 0 where
   stage-bytes : Octets u.stage
 
 length-step : (c : Cfg) (s : State) (mem backing chain stage : List ℕ) → length (step c s mem backing chain stage).mem ≡ length mem
-unfolding step stepWith
+unfolding step step_with
 length-step c s mem backing chain stage =
-    length-apply (memStores c s.answered chain (diskOf c.disk backing) (effect chain stage s.phase (fetched c s chain mem))) mem
+    length-apply (mem_stores c s.answered chain (disk_of c.disk backing) (effect chain stage s.phase (fetched c s chain mem))) mem
 
 -- one call beside one step
 same_step : (c : Cfg) (n i : ℕ) (o : Called) (u : Out) → Octets c.id → Same c n o u → Same c n (called o) (again c (λ i x. x) i u)
@@ -77,14 +77,14 @@ same-until c n (suc k) (suc f) i o u d h s q e =
     (same-until c n k f (suc i) (called o) (again c (λ i x. x) i u) d (omega arith) r (λ j l. q (suc j) (omega arith)) e)
 
 -- an outcome's answer is not 1
-code-last : (x : Outcome) → codeFor x ≡ 1 → ⊥
-unfolding codeFor
+code-last : (x : Outcome) → code_for x ≡ 1 → ⊥
+unfolding code_for
 code-last idle h = omega arith
 code-last (breaks reason head fetched at) h = omega arith
 code-last (serves writes idx after head len descs) h = omega arith
 
-chain-some : (c : Cfg) (v : Seen) (x : Followed) → 1 ≤ chainCalls c v x
-unfolding chainCalls
+chain-some : (c : Cfg) (v : Seen) (x : Followed) → 1 ≤ chain_calls c v x
+unfolding chain_calls
 chain-some c v (broke reason fetched at) = omega arith
 chain-some c v (whole rs ws last) = on (λ (x : ℕ). 1 ≤ x) (eqb (length ws) 0) (λ e. omega arith) (λ e. omega arith)
 
@@ -96,8 +96,8 @@ calls-some c v t =
     (λ f. on (λ (x : ℕ). 1 ≤ x) (leb c.queue.size v.entry) (λ g. omega arith) (λ g. chain-some c v _)))
 
 -- a map that is sound for a memory is sound for a longer one
-region-more : (m n : ℕ) (r : Region) → m ≤ n → regionCode m r ≡ 0 → regionCode n r ≡ 0
-unfolding regionCode
+region-more : (m n : ℕ) (r : Region) → m ≤ n → region_code m r ≡ 0 → region_code n r ≡ 0
+unfolding region_code
 region-more m n r h e =
     let k = region-sound m r e in
     rw (ne_eqb r.len 0 (λ z. omega arith), le-ltb n (r.place + r.len) (omega arith), le-ltb (2 ^ 64 - 1) (r.guest + r.len) k.below)
@@ -105,11 +105,11 @@ region-more m n r h e =
 sound_more : (m n : ℕ) (rs : List Region) → m ≤ n → sound m rs ≡ true → sound n rs ≡ true
 unfolding sound
 sound_more m n [] h e = refl
-sound_more m n (r ∷ rs) h e = go (eqb (regionCode m r) 0) refl e (sound_more m n rs h)
+sound_more m n (r ∷ rs) h e = go (eqb (region_code m r) 0) refl e (sound_more m n rs h)
   where
-    go : (b : Bool) → eqb (regionCode m r) 0 ≡ b → pick b (sound m rs) false ≡ true → (sound m rs ≡ true → sound n rs ≡ true)
-        → pick (eqb (regionCode n r) 0) (sound n rs) false ≡ true
-    go true t k f = rw (eq-eqb (regionCode n r) 0 (region-more m n r h (eqb-true (regionCode m r) 0 t))) (f k)
+    go : (b : Bool) → eqb (region_code m r) 0 ≡ b → pick b (sound m rs) false ≡ true → (sound m rs ≡ true → sound n rs ≡ true)
+        → pick (eqb (region_code n r) 0) (sound n rs) false ≡ true
+    go true t k f = rw (eq-eqb (region_code n r) 0 (region-more m n r h (eqb-true (region_code m r) 0 t))) (f k)
     go false t k f = let z : ◌≡◌ {A = ℕ} 0 1 = cc in absurd (omega arith)
 
 -- what a world that matches stands on
@@ -118,13 +118,13 @@ pub record Stands (c : Cfg) (n : ℕ) (w : World) : Type 0 where
   pub chain-long : 2 * c.queue.size ≤ length w.chain
   pub stage-long : 1048576 ≤ length w.stage
   pub disk-in : c.disk.start + 512 * c.disk.sectors ≤ length w.backing
-  pub taken-low : get_or w.state takenWord 0 < 65536
-  pub answered-low : get_or w.state answeredWord 0 < 65536
+  pub taken-low : get_or w.state taken_word 0 < 65536
+  pub answered-low : get_or w.state answered_word 0 < 65536
   pub id-bytes : Octets c.id
 
 pub stands : (c : Cfg) (n : ℕ) (w : World) (s : State) (backing chain stage : List ℕ) → Matches c n w s backing chain stage → Stands c n w
 stands c n w s backing chain stage m =
-    let g : Going w.state (phaseOf (rowAt w.state)) n (length w.backing) w.chain (length w.stage) =
+    let g : Going w.state (phase_of (row_at w.state)) n (length w.backing) w.chain (length w.stage) =
     record {
       words_long = m.words_long;
       enabled = m.enabled;
@@ -132,13 +132,13 @@ stands c n w s backing chain stage m =
       slices-long = m.slices-long;
       chain-ready = made-ready w.state w.chain m.enabled m.made;
     } in
-    let f = fit_of w.state (phaseOf (rowAt w.state)) n (length w.backing) w.chain (length w.stage) g in
+    let f = fit_of w.state (phase_of (row_at w.state)) n (length w.backing) w.chain (length w.stage) g in
     rw (← m.cfg-is)
     (record {
       disk-in = f.disk-in;
       taken-low = f.taken-low;
       answered-low = f.answered-low;
-      map-sound = sound_more (configAt w.state).m n _ f.mem_long f.sound-map;
+      map-sound = sound_more (config_at w.state).m n _ f.mem_long f.sound-map;
       chain-long = f.chain-long;
       stage-long = f.stage-long;
       id-bytes = octets-id _ _ _;

@@ -7,12 +7,12 @@ use mathlib.Core.Path.{◌≡◌, refl, sym, ap, ◌∙◌}
 use lib.Dec.{eqb, leb}
 use lib.ListN.{length, get_or, drop, length-drop}
 use borrow.Author.Tests.{eq-eqb, eqb-true}
-use Rattle.words.specs.Layout.{descsWord}
+use Rattle.words.specs.Layout.{descs_word}
 use Rattle.model.specs.Bytes.{put, part}
 use Rattle.model.specs.Memory.{Region, regions}
-use Rattle.model.specs.Ring.{oneMore}
+use Rattle.model.specs.Ring.{plus_one}
 use Rattle.model.specs.Request.{verdict, status, reported}
-use Rattle.model.specs.Step.{Cfg, Span, spans, handed, diskOf}
+use Rattle.model.specs.Step.{Cfg, Span, spans, handed, disk_of}
 use Rattle.model.specs.declared.Queue.{Queue}
 use Rattle.model.specs.declared.Job.{Job}
 use Rattle.model.specs.declared.Job.TheVariants.{Read, Write}
@@ -21,15 +21,15 @@ use Rattle.model.specs.declared.Phase.TheVariants.{Poll}
 use Rattle.model.proofs.Lists.{length-put}
 use Rattle.model.proofs.Step.{length-apply}
 use Rattle.model.proofs.Tests.{both-split}
-use Rattle.requests.specs.Serve.{still, total, walk, answer, stored, serve, memoryAfter, backingAfter, Outcome}
+use Rattle.requests.specs.Serve.{still, total, walk, answer, stored, serve, memory_after, backing_after, Outcome}
 use Rattle.requests.specs.Table.{Accepted, reads as accepts, writes as stores, flushes, tells}
 use Rattle.requests.proofs.Table.{accepted-served, served-accepted}
-use Rattle.requests.specs.Guest.{stateAfter}
+use Rattle.requests.specs.Guest.{state_after}
 use Rattle.hostiledisk.specs.Calls.{Called, untouched}
 use Rattle.guarantees.specs.History.{left}
 use Rattle.guarantees.specs.Follow.{Matches}
-use Rattle.driver.specs.Lay.{Plan, plan, formed, header, marked, lay, layOn, layStores, Lay, published as publishedBy}
-use Rattle.driver.specs.Take.{usedIdx, taken, ownAfter, released, data_of}
+use Rattle.driver.specs.Lay.{Plan, plan, formed, header, marked, lay, lay_on, lay_stores, Lay, published as publishedBy}
+use Rattle.driver.specs.Take.{used_idx, taken, own_after, released, data_of}
 use Rattle.driver.specs.Fit.{LayFit}
 use Rattle.driver.specs.declared.Driver.{Driver}
 use Rattle.driver.specs.declared.Ask.{Ask}
@@ -54,9 +54,9 @@ use Rattle.trip.proofs.Laid.{AllBytes, laid-bytes}
 use Rattle.trip.proofs.Until.{until-serves, Stands as DeviceStands, stands as Stands-of}
 use Rattle.trip.specs.declared.Trip.{Trip}
 use Rattle.trip.specs.declared.Trip.TheVariants.{Both}
-use Rattle.trip.specs.Round.{asked, round, written, readBack}
-use Rattle.trip.specs.Honest.{Honest, deviceOf}
-use Rattle.trip.specs.Exchange.{sent, shownIn, received, withStatus, Exchange, reading, lent, after, exchange}
+use Rattle.trip.specs.Round.{asked, round, written, round_of}
+use Rattle.trip.specs.Honest.{Honest, device_of}
+use Rattle.trip.specs.Exchange.{sent, shown_in, received, with_status, Exchange, reading, lent, after, exchange}
 
 -- what one exchange stands on
 pub record Ready (c : Cfg) (fuel : ℕ) (d : Driver) (own : List ℕ) (rs : List Region) (ask : Ask) (message bufs spots nums : List ℕ) (o : Called) : Type 0 where
@@ -77,138 +77,138 @@ pub record Ready (c : Cfg) (fuel : ℕ) (d : Driver) (own : List ℕ) (rs : List
 
 -- what an answer that names the request's head is taken for
 received-own : (head : ℕ) (d : Driver) (len s : ℕ) (x : Taken) (b : Byte) → x ≡ Answer d head len → b ≡ Is s → received head x b ≡ Done d s len
-unfolding received withStatus
+unfolding received with_status
 received-own head d len s x b e f = rw (e, f, eq-eqb head head refl)
 
-freed-own : (q : ℕ) (own : List ℕ) (d : Driver) (head len : ℕ) (x : Taken) (own₂ : List ℕ) → x ≡ Answer d head len → released q (1 + head) own ≡ own₂ → ownAfter q own x ≡ own₂
-unfolding ownAfter
+freed-own : (q : ℕ) (own : List ℕ) (d : Driver) (head len : ℕ) (x : Taken) (own₂ : List ℕ) → x ≡ Answer d head len → released q (1 + head) own ≡ own₂ → own_after q own x ≡ own₂
+unfolding own_after
 freed-own q own d head len x own₂ e f = rw e f
 
 state-answered : (c : Cfg) (a : ℕ) (backing : List ℕ) (head : ℕ) (rs ws : List Span) (string : List ℕ) (job : Job) (t descs : ℕ)
-    → stateAfter (answer c a backing head rs ws string job) t a descs ≡ record { taken = oneMore t; answered = oneMore a; descs = length rs + length ws; phase = Poll }
-unfolding stateAfter answer
+    → state_after (answer c a backing head rs ws string job) t a descs ≡ record { taken = plus_one t; answered = plus_one a; descs = length rs + length ws; phase = Poll }
+unfolding state_after answer
 state-answered c a backing head rs ws string job t descs = refl
 
 module _ (c : Cfg) (fuel : ℕ) (d : Driver) (own : List ℕ) (rs : List Region) (ask : Ask) (message bufs spots nums : List ℕ) (o : Called) (k : Ready c fuel d own rs ask message bufs spots nums o) where
-  abbrev planHere : Plan
-  planHere = plan d.queue rs (length o.mem) own ask.kind (length message) bufs ask.reads spots nums
+  abbrev plan_here : Plan
+  plan_here = plan d.queue rs (length o.mem) own ask.kind (length message) bufs ask.reads spots nums
 
   abbrev e : ℕ
   e = length bufs / 2
 
   abbrev head : ℕ
-  head = get_or planHere.nums 0 0
+  head = get_or plan_here.nums 0 0
 
-  fit : LayFit d.queue rs (length o.mem) own ask.kind (length message) bufs ask.reads e planHere.spots planHere.nums
+  fit : LayFit d.queue rs (length o.mem) own ask.kind (length message) bufs ask.reads e plan_here.spots plan_here.nums
   fit = plan-fits d.queue rs (length o.mem) own ask.kind (length message) bufs ask.reads spots nums k.accepted
 
   -- the driver, its own words, the message and guest memory once the request is laid and published
-  abbrev laidDriver : Driver
-  laidDriver = record { queue = d.queue; next = oneMore d.next; seen = d.seen }
+  abbrev laid_driver : Driver
+  laid_driver = record { queue = d.queue; next = plus_one d.next; seen = d.seen }
 
-  abbrev laidOwn : List ℕ
-  laidOwn = marked (part 0 e planHere.nums) (1 + head) own
+  abbrev laid_own : List ℕ
+  laid_own = marked (part 0 e plan_here.nums) (1 + head) own
 
   abbrev string : List ℕ
   string = put message 0 (header ask.kind ask.sector)
 
-  abbrev laidMem : List ℕ
-  laidMem = published d.queue d.next string ask.reads e bufs planHere.spots planHere.nums o.mem
+  abbrev laid_mem : List ℕ
+  laid_mem = published d.queue d.next string ask.reads e bufs plan_here.spots plan_here.nums o.mem
 
-  abbrev laidAll : Lay
-  laidAll = record { answer = Head laidDriver head; mem = laidMem; own = laidOwn; message = string; spots = planHere.spots; nums = planHere.nums }
+  abbrev laid_all : Lay
+  laid_all = record { answer = Head laid_driver head; mem = laid_mem; own = laid_own; message = string; spots = plan_here.spots; nums = plan_here.nums }
 
-  sent_is : sent d own rs o.mem ask message bufs spots nums ≡ laidAll
-  unfolding sent lay layOn shownIn publishedBy
+  sent_is : sent d own rs o.mem ask message bufs spots nums ≡ laid_all
+  unfolding sent lay lay_on shown_in publishedBy
   sent_is =
       rw (
-        eq-eqb planHere.code 0 k.accepted,
-        length-apply (layStores d.queue d.next string ask.reads e bufs planHere.spots planHere.nums) o.mem,
+        eq-eqb plan_here.code 0 k.accepted,
+        length-apply (lay_stores d.queue d.next string ask.reads e bufs plan_here.spots plan_here.nums) o.mem,
         queue-in fit,
       )
 
   abbrev left_over : Called
-  left_over = until fuel (lent o laidMem)
+  left_over = until fuel (lent o laid_mem)
 
-  exchange-is : exchange fuel d own rs ask message bufs spots nums o ≡ reading laidDriver head ask.reads e laidAll left_over
+  exchange-is : exchange fuel d own rs ask message bufs spots nums o ≡ reading laid_driver head ask.reads e laid_all left_over
   unfolding exchange after
   exchange-is = rw sent_is
 
   abbrev reads : List Span
-  reads = spans ask.reads 0 planHere.spots
+  reads = spans ask.reads 0 plan_here.spots
 
   abbrev writes : List Span
-  writes = spans (e - ask.reads) ask.reads planHere.spots
+  writes = spans (e - ask.reads) ask.reads plan_here.spots
 
   abbrev job : Job
   job = verdict c.disk ask.kind ask.sector (length message) (total writes)
 
   abbrev given : List ℕ
-  given = handed c.id (diskOf c.disk o.backing) (walk head reads writes) job
+  given = handed c.id (disk_of c.disk o.backing) (walk head reads writes) job
 
   whole : length string ≡ length message
   whole = length-put message 0 (header ask.kind ask.sector)
 
-  stands : Stands d.queue bufs planHere.spots planHere.nums ask.reads e string laidMem
+  stands : Stands d.queue bufs plan_here.spots plan_here.nums ask.reads e string laid_mem
   stands = published-stands fit o.mem string refl whole d.next
 
-  waits : Waits d.queue planHere.nums d.next laidMem
+  waits : Waits d.queue plan_here.nums d.next laid_mem
   waits = published-waits fit o.mem string refl whole d.next k.next-in
 
-  long : length laidMem ≡ length o.mem
+  long : length laid_mem ≡ length o.mem
   long = published-long fit o.mem string refl whole d.next
 
   abbrev outcome : Outcome
-  outcome = serve c (still d.queue d.next laidMem) d.next d.seen o.backing
+  outcome = serve c (still d.queue d.next laid_mem) d.next d.seen o.backing
 
   outcome-is : outcome ≡ answer c d.seen o.backing head reads writes string job
   outcome-is =
-      takes laidDriver c fit k.same_map k.same_queue ask.sector k.sector-in message refl o.backing laidMem stands d.next d.seen waits
+      takes laid_driver c fit k.same_map k.same_queue ask.sector k.sector-in message refl o.backing laid_mem stands d.next d.seen waits
 
   -- (not by `c.queue` itself: a record is rewritten with its field)
-  same_view : still c.queue d.next laidMem ≡ still d.queue d.next laidMem
-  same_view = ap (λ (q : Queue). still q d.next laidMem) k.same_queue
+  same_view : still c.queue d.next laid_mem ≡ still d.queue d.next laid_mem
+  same_view = ap (λ (q : Queue). still q d.next laid_mem) k.same_queue
 
-  served : Served c (length o.mem) d.next d.seen k.descs laidMem o.backing outcome left_over
+  served : Served c (length o.mem) d.next d.seen k.descs laid_mem o.backing outcome left_over
   served =
       rw same_view at
-      (until-serves c (length o.mem) (left o) d.next d.seen k.descs fuel laidMem k.at_rest long
-      (laid-bytes d.queue d.next ask.kind ask.sector message ask.reads e bufs planHere.spots planHere.nums o.mem k.message-bytes k.mem_bytes)
+      (until-serves c (length o.mem) (left o) d.next d.seen k.descs fuel laid_mem k.at_rest long
+      (laid-bytes d.queue d.next ask.kind ask.sector message ask.reads e bufs plan_here.spots plan_here.nums o.mem k.message-bytes k.mem_bytes)
       k.backing-bytes k.stage-bytes
-      (rw same_view (omega (arith, stands-few c fit k.same_map k.same_queue string laidMem stands d.next waits, k.enough, fit.reads_in))))
+      (rw same_view (omega (arith, stands-few c fit k.same_map k.same_queue string laid_mem stands d.next waits, k.enough, fit.reads_in))))
 
-  both_ways : Reads laidDriver laidOwn head planHere.spots ask.reads e job given (memoryAfter outcome laidMem)
-      × (backingAfter outcome o.backing ≡ stored c.disk job (drop 16 message) o.backing)
+  both_ways : Reads laid_driver laid_own head plan_here.spots ask.reads e job given (memory_after outcome laid_mem)
+      × (backing_after outcome o.backing ≡ stored c.disk job (drop 16 message) o.backing)
   both_ways =
-      trip laidDriver c fit k.same_map k.same_queue ask.sector k.sector-in message refl o.backing laidMem long stands d.next waits k.seen-in laidOwn
-      (omega (arith, length_marked (part 0 e planHere.nums) (1 + head) own, fit.own-long)) (laid-outstanding fit)
+      trip laid_driver c fit k.same_map k.same_queue ask.sector k.sector-in message refl o.backing laid_mem long stands d.next waits k.seen-in laid_own
+      (omega (arith, length_marked (part 0 e plan_here.nums) (1 + head) own, fit.own-long)) (laid-outstanding fit)
 
   -- What an exchange comes to: the request's answer, and a driver and a device that can go on.
   pub record Went (x : Exchange) : Type 0 where
-    pub answer-is : x.answer ≡ Done (record { queue = d.queue; next = oneMore d.next; seen = oneMore d.seen }) (status job) (reported (status job) (total writes))
+    pub answer-is : x.answer ≡ Done (record { queue = d.queue; next = plus_one d.next; seen = plus_one d.seen }) (status job) (reported (status job) (total writes))
     pub own_is : x.own ≡ own
-    pub spots-are : x.spots ≡ planHere.spots
-    pub nums-are : x.nums ≡ planHere.nums
-    pub reads-are : Reads laidDriver laidOwn head planHere.spots ask.reads e job given x.device.mem
+    pub spots-are : x.spots ≡ plan_here.spots
+    pub nums-are : x.nums ≡ plan_here.nums
+    pub reads-are : Reads laid_driver laid_own head plan_here.spots ask.reads e job given x.device.mem
     pub backing-is : x.device.backing ≡ stored c.disk job (drop 16 message) o.backing
-    pub goes_on : Matches c (length o.mem) (left x.device) (record { taken = oneMore d.next; answered = oneMore d.seen; descs = length reads + length writes; phase = Poll }) x.device.backing x.device.chain x.device.stage
+    pub goes_on : Matches c (length o.mem) (left x.device) (record { taken = plus_one d.next; answered = plus_one d.seen; descs = length reads + length writes; phase = Poll }) x.device.backing x.device.chain x.device.stage
     pub mem_long : length x.device.mem ≡ length o.mem
     pub mem_bytes : AllBytes x.device.mem
     pub backing-bytes : AllBytes x.device.backing
     pub stage-bytes : AllBytes x.device.stage
 
-  went-reading : Went (reading laidDriver head ask.reads e laidAll left_over)
+  went-reading : Went (reading laid_driver head ask.reads e laid_all left_over)
   unfolding reading
   went-reading =
       let v = served in
       let b = both_ways in
-      let r : Reads laidDriver laidOwn head planHere.spots ask.reads e job given left_over.mem = rw v.mem_is b.0 in
-      let t : taken laidDriver laidOwn left_over.mem (usedIdx laidDriver left_over.mem)
-      ≡ Answer (record { queue = d.queue; next = oneMore d.next; seen = oneMore d.seen }) head (reported (status job) (total writes)) =
+      let r : Reads laid_driver laid_own head plan_here.spots ask.reads e job given left_over.mem = rw v.mem_is b.0 in
+      let t : taken laid_driver laid_own left_over.mem (used_idx laid_driver left_over.mem)
+      ≡ Answer (record { queue = d.queue; next = plus_one d.next; seen = plus_one d.seen }) head (reported (status job) (total writes)) =
       rw r.idx-read r.answer-taken in
       record {
         answer-is = received-own head _ _ (status job) _ _ t r.status-read;
-        own_is = freed-own d.queue.size laidOwn _ head _ _ own t (named_again fit k.named);
+        own_is = freed-own d.queue.size laid_own _ head _ _ own t (named_again fit k.named);
         spots-are = refl;
         nums-are = refl;
         reads-are = r;
@@ -257,15 +257,15 @@ total-same bufs spots (suc n) i f =
 -- A write, read back: both have status 0, and the bytes that come back are those that were written. Bytes are below 256, and a sector is a u64.
 module _ (n : ℕ) (d : Driver) (own map : List ℕ) (sector : ℕ) (message bufs : List ℕ) (reads₁ : ℕ) (header₂ bufs₂ : List ℕ) (reads₂ : ℕ) (out spots nums : List ℕ) (o : Called) (h : Honest o.state o.mem o.backing o.chain o.stage n d own map sector message bufs reads₁ header₂ bufs₂ reads₂ out spots nums) (sector-in : sector < 2 ^ 64) (mem_bytes : AllBytes o.mem) (backing-bytes : AllBytes o.backing) (stage-bytes : AllBytes o.stage) (message-bytes : AllBytes message) (header-all : AllBytes header₂) where
   abbrev dev : Cfg
-  dev = deviceOf o.state
+  dev = device_of o.state
 
   dev-stands : DeviceStands dev (length o.mem) (left o)
-  dev-stands = Stands-of dev (length o.mem) (left o) (record { taken = d.next; answered = d.seen; descs = get_or o.state descsWord 0; phase = Poll }) o.backing o.chain o.stage h.at_rest
+  dev-stands = Stands-of dev (length o.mem) (left o) (record { taken = d.next; answered = d.seen; descs = get_or o.state descs_word 0; phase = Poll }) o.backing o.chain o.stage h.at_rest
 
   ready₁ : Ready dev n d own (regions map) (asked 1 sector reads₁) message bufs spots nums o
   ready₁ =
       record {
-        descs = get_or o.state descsWord 0;
+        descs = get_or o.state descs_word 0;
         at_rest = h.at_rest;
         same_queue = h.same_queue;
         same_map = h.same_map;
@@ -309,7 +309,7 @@ module _ (n : ℕ) (d : Driver) (own map : List ℕ) (sector : ℕ) (message buf
   o₂ = lent first.device first.device.mem
 
   abbrev d₂ : Driver
-  d₂ = record { queue = d.queue; next = oneMore d.next; seen = oneMore d.seen }
+  d₂ = record { queue = d.queue; next = plus_one d.next; seen = plus_one d.seen }
 
   ready₂ : Ready dev n d₂ first.own (regions map) (asked 0 sector reads₂) header₂ bufs₂ first.spots first.nums o₂
   ready₂ =
@@ -376,7 +376,7 @@ module _ (n : ℕ) (d : Driver) (own map : List ℕ) (sector : ℕ) (message buf
 
   pub round_trip : ((round n d own (regions map) sector message bufs reads₁ header₂ bufs₂ reads₂ out spots nums o).answer ≡ Both 0 0)
       × ((round n d own (regions map) sector message bufs reads₁ header₂ bufs₂ reads₂ out spots nums o).out ≡ drop 16 message)
-  unfolding round written readBack
+  unfolding round written round_of
   round_trip = rw (went₁.answer-is, went₂.answer-is, status₁, status₂) (refl, read_back)
 
 -- .. as the contract of `round_trip` has it

@@ -3,8 +3,8 @@ use Rattle.std.specs.Prelude.{ℕ, ◌+◌, ◌-◌, ◌/◌, ◌≤◌, List, �
 use Rattle.model.specs.Memory.{regions}
 use Rattle.model.specs.Step.{Cfg, spans}
 use Rattle.model.specs.declared.Phase.TheVariants.{Poll}
-use Rattle.device.specs.Turn.{cfgOf}
-use Rattle.words.specs.Layout.{configAt, mapWords, descsWord}
+use Rattle.device.specs.Turn.{cfg_of}
+use Rattle.words.specs.Layout.{config_at, map_words, descs_word}
 use Rattle.requests.specs.Serve.{total}
 use Rattle.requests.specs.Table.{Fit}
 use Rattle.guarantees.specs.Follow.{Matches}
@@ -13,23 +13,23 @@ use Rattle.driver.specs.declared.Driver.{Driver}
 use Rattle.trips.specs.Stands.{Named}
 
 -- the device that these words are: its map, its queue, its disk
-abbrev pub deviceOf : List ℕ → Cfg
-deviceOf state = cfgOf (configAt state) (mapWords state)
+abbrev pub device_of : List ℕ → Cfg
+device_of state = cfg_of (config_at state) (map_words state)
 
 -- A write of the message's data (all but its first 16 bytes) over `bufs`, the first `reads` of them readable, and a read of the same sectors over
 -- `bufs₂`; n calls of hd_step for each. Nothing is said of what guest memory, the disk, the rings or the buffers hold.
 pub record Honest (state mem backing chain stage : List ℕ) (n : ℕ) (d : Driver) (own map : List ℕ) (sector : ℕ) (message bufs : List ℕ) (reads : ℕ) (header bufs₂ : List ℕ) (reads₂ : ℕ) (out spots nums : List ℕ) : Type 0 where
   -- the words are those of an enabled queue at rest, which has taken and answered as many requests as the driver has laid and read
-  pub at_rest : Matches (deviceOf state) (length mem) (record { state = state; backing = backing; chain = chain; stage = stage })
-      (record { taken = d.next; answered = d.seen; descs = get_or state descsWord 0; phase = Poll }) backing chain stage
+  pub at_rest : Matches (device_of state) (length mem) (record { state = state; backing = backing; chain = chain; stage = stage })
+      (record { taken = d.next; answered = d.seen; descs = get_or state descs_word 0; phase = Poll }) backing chain stage
   -- driver and device mean the same queue and the same memory
-  pub same_queue : (deviceOf state).queue ≡ d.queue
-  pub same_map : (deviceOf state).map ≡ regions map
+  pub same_queue : (device_of state).queue ≡ d.queue
+  pub same_map : (device_of state).map ≡ regions map
   -- the driver's own words are in order (all 0, or as laying and reading answers leave them)
   pub own-named : Named d.queue.size own
   -- the disk can be written, and the data are whole sectors of it
-  pub writable : (deviceOf state).disk.ro ≡ 0
-  pub sectors-fit : Fit (length message - 16) sector (deviceOf state).disk.sectors
+  pub writable : (device_of state).disk.ro ≡ 0
+  pub sectors-fit : Fit (length message - 16) sector (device_of state).disk.sectors
   -- the driver has room for each of the two requests
   pub write-accepted : (plan d.queue (regions map) (length mem) own 1 (length message) bufs reads spots nums).code ≡ 0
   pub read-accepted : (plan d.queue (regions map) (length mem) own 0 (length header) bufs₂ reads₂ spots nums).code ≡ 0

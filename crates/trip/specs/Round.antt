@@ -20,13 +20,13 @@ pub record Round : Type 0 where
   pub out : List ℕ
 
 -- the read's answer, after the write's status s: its data are read from the memory that it has left
-unfoldable pub readBack : ℕ → ℕ → ℕ → List ℕ → Exchange → Exchanged → Round
-readBack s reads e out y (Refused k) = record { answer = Failed k; out = out }
-readBack s reads e out y (Stuck k) = record { answer = Failed k; out = out }
-readBack s reads e out y (Done d t len) = record { answer = Both s t; out = data_of y.device.mem y.spots reads e out }
+unfoldable pub round_of : ℕ → ℕ → ℕ → List ℕ → Exchange → Exchanged → Round
+round_of s reads e out y (Refused k) = record { answer = Failed k; out = out }
+round_of s reads e out y (Stuck k) = record { answer = Failed k; out = out }
+round_of s reads e out y (Done d t len) = record { answer = Both s t; out = data_of y.device.mem y.spots reads e out }
 
 abbrev pub read_of : ℕ → ℕ → ℕ → List ℕ → Exchange → Round
-read_of s reads e out y = readBack s reads e out y y.answer
+read_of s reads e out y = round_of s reads e out y y.answer
 
 -- the write's answer, and then the read of the same sectors, on what the write has left
 unfoldable pub written : ℕ → List Region → ℕ → List ℕ → List ℕ → ℕ → List ℕ → Exchange → Exchanged → Round

@@ -3,8 +3,8 @@ ghost use Rattle.std.specs.Prelude.{◌≡◌};
 ghost use Rattle.model.specs.Memory.{regions};
 ghost use Rattle.hostiledisk.specs.Calls.{untouched};
 ghost use Rattle.driver.specs.Lay.{LayIs};
-ghost use Rattle.driver.specs.Take.{usedIdx, taken, ownAfter, statusOf};
-ghost use Rattle.trip.specs.Exchange.{sent, withStatus, received, exchange, ExchangeIs};
+ghost use Rattle.driver.specs.Take.{used_idx, taken, own_after, status_of};
+ghost use Rattle.trip.specs.Exchange.{sent, with_status, received, exchange, ExchangeIs};
 
 use crate::{Exchanged, serve};
 use driver::{Ask, Byte, Driver, Laid, Taken, laying, reading};
@@ -34,7 +34,7 @@ pub fn send(
 }
 
 fn with_status(d: Driver, len: usize, b: Byte) -> Exchanged
-    ensures { result ≡ withStatus d len b }
+    ensures { result ≡ with_status d len b }
 {
     match b {
         Byte::Unread => Exchanged::Stuck(69),
@@ -67,8 +67,8 @@ pub fn receive(
     reads: usize,
     e: usize,
 ) -> Exchanged
-    ensures value { result ≡ received head (taken d own.old mem.now (usedIdx d mem.now)) (statusOf mem.now spots.now reads e) }
-    ensures own_after { own.new ≡ ownAfter d.queue.size own.old (taken d own.old mem.now (usedIdx d mem.now)) }
+    ensures value { result ≡ received head (taken d own.old mem.now (used_idx d mem.now)) (status_of mem.now spots.now reads e) }
+    ensures own_after { own.new ≡ own_after d.queue.size own.old (taken d own.old mem.now (used_idx d mem.now)) }
 {
     let idx = reading::used_idx(d, mem);
     let t = reading::take(d, own, mem, idx);

@@ -9,15 +9,15 @@ use lib.ListN.{length, get_or, take, length-take}
 use lib.Seq.{take-take}
 use borrow.Author.Tests.{lt-ltb, le-ltb, le-leb, ne_eqb}
 use Rattle.model.specs.Memory.{Region}
-use Rattle.model.specs.Ring.{pending, oneMore}
+use Rattle.model.specs.Ring.{pending, plus_one}
 use Rattle.model.specs.Step.{Span, spans}
-use Rattle.model.specs.Sane.{inside, allInside}
+use Rattle.model.specs.Sane.{inside, all_inside}
 use Rattle.model.specs.declared.Queue.{Queue}
 use Rattle.model.specs.declared.Job.{Job}
 use Rattle.requests.specs.Serve.{gather, total}
 use Rattle.requests.proofs.Spans.{Inside}
-use Rattle.driver.specs.Lay.{queueIn}
-use Rattle.driver.specs.Take.{usedIdx, usedWord, countable, outstanding, judged, taken, spotsIn, statusOf, data_of}
+use Rattle.driver.specs.Lay.{queue_in}
+use Rattle.driver.specs.Take.{used_idx, used_word, countable, outstanding, judged, taken, spots_in, status_of, data_of}
 use Rattle.driver.specs.Fit.{LayFit}
 use Rattle.driver.specs.declared.Driver.{Driver}
 use Rattle.trips.specs.Answered.{Answered}
@@ -27,8 +27,8 @@ use Rattle.trips.proofs.Fits.{buf-ok, size_in, writes-some, writes-inside}
 use Rattle.trips.proofs.Taken.{more-below, pending-one}
 use Rattle.trips.proofs.Read.{last-at}
 
-all-inside : (m : ℕ) (ss : List Span) → Inside m ss → allInside m ss ≡ true
-unfolding Inside allInside inside
+all-inside : (m : ℕ) (ss : List Span) → Inside m ss → all_inside m ss ≡ true
+unfolding Inside all_inside inside
 all-inside m [] k = refl
 all-inside m (s ∷ ss) k = rw (le-leb (s.at + s.len) m k.1) (all-inside m ss k.2)
 
@@ -37,13 +37,13 @@ take_less : (n k : ℕ) (g bs : List ℕ) → take k g ≡ bs → n ≤ k → ta
 take_less n k g bs e h = rw (← e) (sym (take-take n k g h))
 
 module _ {q : Queue} {rs : List Region} {m : ℕ} {own : List ℕ} {kind r : ℕ} {bufs : List ℕ} {reads e : ℕ} {spots nums : List ℕ} (fit : LayFit q rs m own kind r bufs reads e spots nums) where
-  pub queue-in : queueIn q m ≡ true
-  unfolding queueIn
+  pub queue-in : queue_in q m ≡ true
+  unfolding queue_in
   queue-in =
       rw (fit.size_ok, le-leb (q.desc + 16 * q.size) m fit.desc-in, le-leb (q.avail + (6 + 2 * q.size)) m fit.avail-in, le-leb (q.used + (6 + 8 * q.size)) m fit.used-in)
 
-  pub spots-in : spotsIn m spots reads e ≡ true
-  unfolding spotsIn
+  pub spots-in : spots_in m spots reads e ≡ true
+  unfolding spots_in
   spots-in =
       let w = writes-some fit in
       let b = buf-ok fit (e - 1) (omega arith) in
@@ -60,7 +60,7 @@ pub answered-reads : (d : Driver) {rs : List Region} {m : ℕ} {own : List ℕ} 
     → LayFit d.queue rs m own kind r bufs reads e spots nums → d.seen < 65536 → (own₂ : List ℕ) → d.queue.size ≤ length own₂
     → (head : ℕ) → outstanding d.queue.size own₂ head ≡ true → (job : Job) (given m₂ m₃ : List ℕ) → length m₂ ≡ m
     → Answered d.queue d.seen head (spans (e - reads) reads spots) job given m₂ m₃ → Reads d own₂ head spots reads e job given m₃
-unfolding usedIdx usedWord countable taken judged statusOf data_of
+unfolding used_idx used_word countable taken judged status_of data_of
 answered-reads d {reads = reads} {e = e} {spots = spots} fit seen own₂ long₂ head out job given m₂ m₃ long ans =
     let l : length m₃ ≡ _ = ans.long ∙ long in
     let q = queue-in fit in
@@ -77,10 +77,10 @@ answered-reads d {reads = reads} {e = e} {spots = spots} fit seen own₂ long₂
         ans.head-is,
         ans.len_is,
         le-leb d.queue.size (length own₂) long₂,
-        lt-ltb (oneMore d.seen) 65536 (more-below d.seen),
+        lt-ltb (plus_one d.seen) 65536 (more-below d.seen),
         lt-ltb d.seen 65536 seen,
-        ne_eqb (pending (oneMore d.seen) d.seen) 0 (λ x. omega arith),
-        le-ltb d.queue.size (pending (oneMore d.seen) d.seen) (omega arith),
+        ne_eqb (pending (plus_one d.seen) d.seen) 0 (λ x. omega arith),
+        le-ltb d.queue.size (pending (plus_one d.seen) d.seen) (omega arith),
         out,
       );
       status-read = rw (l, s, ← (last-at fit), ans.status-is);

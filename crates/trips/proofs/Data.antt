@@ -6,7 +6,7 @@ use mathlib.Core.List.{List}
 use lib.ListN.{length}
 use Rattle.model.specs.Bytes.{put, part}
 use Rattle.model.specs.Request.{verdict, status}
-use Rattle.model.specs.Step.{Cfg, Span, spans, handed, diskOf}
+use Rattle.model.specs.Step.{Cfg, Span, spans, handed, disk_of}
 use Rattle.model.specs.declared.Disk.{Disk}
 use Rattle.model.specs.declared.Walk.{Walk}
 use Rattle.model.specs.declared.Job.{Job}
@@ -39,23 +39,23 @@ fit-in : (n sector c : ℕ) → Fit n sector c → 512 * sector + n ≤ 512 * c
 fit-in n sector c f = omega (arith, f.whole, f.from, f.upto)
 
 module _ (c : Cfg) (backing : List ℕ) (room : c.disk.start + 512 * c.disk.sectors ≤ length backing) (sector r : ℕ) where
-  disk-long : length (diskOf c.disk backing) ≡ 512 * c.disk.sectors
+  disk-long : length (disk_of c.disk backing) ≡ 512 * c.disk.sectors
   disk-long = length_part c.disk.start (512 * c.disk.sectors) backing room
 
   -- IN with status 0 hands out the disk's bytes from its sector on, one less than the writable bytes.
   pub in-hands : (k : Walk) → status (verdict c.disk 0 sector r k.w) ≡ 0
-      → (handed c.id (diskOf c.disk backing) k (verdict c.disk 0 sector r k.w) ≡ part (512 * sector) (k.w - 1) (diskOf c.disk backing))
-      × (length (handed c.id (diskOf c.disk backing) k (verdict c.disk 0 sector r k.w)) ≡ k.w - 1)
+      → (handed c.id (disk_of c.disk backing) k (verdict c.disk 0 sector r k.w) ≡ part (512 * sector) (k.w - 1) (disk_of c.disk backing))
+      × (length (handed c.id (disk_of c.disk backing) k (verdict c.disk 0 sector r k.w)) ≡ k.w - 1)
   unfolding handed
   in-hands k h =
       let p = (row c.disk 0 sector r k.w h).of-in refl in
       let i = fit-in (k.w - 1) sector c.disk.sectors p.1 in
-      (rw p.0, rw p.0 (length_part (512 * sector) (k.w - 1) (diskOf c.disk backing) (omega (arith, disk-long))))
+      (rw p.0, rw p.0 (length_part (512 * sector) (k.w - 1) (disk_of c.disk backing) (omega (arith, disk-long))))
 
   -- GET_ID with status 0 hands out the disk's identity.
   pub id-hands : (k : Walk) → length c.id ≡ 20 → status (verdict c.disk 8 sector r k.w) ≡ 0
-      → (handed c.id (diskOf c.disk backing) k (verdict c.disk 8 sector r k.w) ≡ c.id)
-      × (length (handed c.id (diskOf c.disk backing) k (verdict c.disk 8 sector r k.w)) ≡ k.w - 1)
+      → (handed c.id (disk_of c.disk backing) k (verdict c.disk 8 sector r k.w) ≡ c.id)
+      × (length (handed c.id (disk_of c.disk backing) k (verdict c.disk 8 sector r k.w)) ≡ k.w - 1)
   unfolding handed
   id-hands k n h =
       let p = (row c.disk 8 sector r k.w h).of-id refl in
@@ -63,7 +63,7 @@ module _ (c : Cfg) (backing : List ℕ) (room : c.disk.start + 512 * c.disk.sect
 
   -- OUT with status 0 changes the disk's bytes from its sector on, and no others, to what was sent ..
   pub out-stores : (w : ℕ) (sent : List ℕ) → status (verdict c.disk 1 sector r w) ≡ 0
-      → diskOf c.disk (stored c.disk (verdict c.disk 1 sector r w) sent backing) ≡ put (diskOf c.disk backing) (512 * sector) sent
+      → disk_of c.disk (stored c.disk (verdict c.disk 1 sector r w) sent backing) ≡ put (disk_of c.disk backing) (512 * sector) sent
   unfolding stored
   out-stores w sent h =
       let p = (row c.disk 1 sector r w h).of-out refl in
@@ -71,25 +71,25 @@ module _ (c : Cfg) (backing : List ℕ) (room : c.disk.start + 512 * c.disk.sect
 
   -- .. so what was written is what is there to be read.
   pub out-then-in : (w : ℕ) (sent : List ℕ) → length sent ≡ r - 16 → status (verdict c.disk 1 sector r w) ≡ 0
-      → part (512 * sector) (r - 16) (diskOf c.disk (stored c.disk (verdict c.disk 1 sector r w) sent backing)) ≡ sent
+      → part (512 * sector) (r - 16) (disk_of c.disk (stored c.disk (verdict c.disk 1 sector r w) sent backing)) ≡ sent
   out-then-in w sent n h =
       let p = (row c.disk 1 sector r w h).of-out refl in
       let i = fit-in (r - 16) sector c.disk.sectors p.1 in
-      rw (out-stores w sent h) (part-put (diskOf c.disk backing) (512 * sector) (r - 16) sent n (omega (arith, disk-long)))
+      rw (out-stores w sent h) (part-put (disk_of c.disk backing) (512 * sector) (r - 16) sent n (omega (arith, disk-long)))
 
   -- The driver that reads the answer of an IN with status 0 has the disk's bytes, as many as it asks for.
   pub in-read : (d : Driver) (own : List ℕ) (head : ℕ) (spots : List ℕ) (reads e : ℕ) (rs : List Span) (mem : List ℕ)
       → Reads d own head spots reads e (verdict c.disk 0 sector r (total (spans (e - reads) reads spots)))
-      (handed c.id (diskOf c.disk backing) (walk head rs (spans (e - reads) reads spots)) (verdict c.disk 0 sector r (total (spans (e - reads) reads spots)))) mem
+      (handed c.id (disk_of c.disk backing) (walk head rs (spans (e - reads) reads spots)) (verdict c.disk 0 sector r (total (spans (e - reads) reads spots)))) mem
       → status (verdict c.disk 0 sector r (total (spans (e - reads) reads spots))) ≡ 0 → (out : List ℕ) → length out ≤ total (spans (e - reads) reads spots) - 1
-      → data_of mem spots reads e out ≡ part (512 * sector) (length out) (diskOf c.disk backing)
+      → data_of mem spots reads e out ≡ part (512 * sector) (length out) (disk_of c.disk backing)
   unfolding walk
   in-read d own head spots reads e rs mem a h out l =
       let k : Walk = walk head rs (spans (e - reads) reads spots) in
       let p = in-hands k h in
       let z : min (length out) (total (spans (e - reads) reads spots) - 1) ≡ length out = omega arith in
       a.data-read p.1 out l
-      ∙ rw p.0 (rw z at (take_part (512 * sector) (total (spans (e - reads) reads spots) - 1) (length out) (diskOf c.disk backing)))
+      ∙ rw p.0 (rw z at (take_part (512 * sector) (total (spans (e - reads) reads spots) - 1) (length out) (disk_of c.disk backing)))
 
 -- the backing slice keeps its length
 length-stored : (d : Disk) (job : Job) (sent backing : List ℕ) → length (stored d job sent backing) ≡ length backing
@@ -106,7 +106,7 @@ pub write_read : (c : Cfg) (backing : List ℕ) → c.disk.start + 512 * c.disk.
     → length sent ≡ r - 16 → status (verdict c.disk 1 sector r w) ≡ 0 → (later : List ℕ) → later ≡ stored c.disk (verdict c.disk 1 sector r w) sent backing
     → (d : Driver) (own : List ℕ) (head : ℕ) (spots : List ℕ) (reads e : ℕ) (rs : List Span) (mem : List ℕ) (r₂ : ℕ)
     → Reads d own head spots reads e (verdict c.disk 0 sector r₂ (total (spans (e - reads) reads spots)))
-    (handed c.id (diskOf c.disk later) (walk head rs (spans (e - reads) reads spots)) (verdict c.disk 0 sector r₂ (total (spans (e - reads) reads spots)))) mem
+    (handed c.id (disk_of c.disk later) (walk head rs (spans (e - reads) reads spots)) (verdict c.disk 0 sector r₂ (total (spans (e - reads) reads spots)))) mem
     → status (verdict c.disk 0 sector r₂ (total (spans (e - reads) reads spots))) ≡ 0
     → (out : List ℕ) → length out ≡ length sent → length out ≤ total (spans (e - reads) reads spots) - 1 → data_of mem spots reads e out ≡ sent
 write_read c backing room sector r w sent n h later el d own head spots reads e rs mem r₂ a g out i l =

@@ -17,8 +17,8 @@ use Rattle.model.specs.declared.Job.{Job}
 use Rattle.model.specs.declared.Job.TheVariants.{Failed, Unsupported, Done, Read, Write, Identity}
 use Rattle.model.proofs.Tests.{on}
 use Rattle.requests.specs.Serve.{Seen, still, total, whole, follow, job_of}
-use Rattle.requests.specs.Steps.{up_to, past, dataFetches, fetches, chainCalls, calls}
-use Rattle.driver.specs.Lay.{availAt}
+use Rattle.requests.specs.Steps.{up_to, past, data_fetches, fetches, chain_calls, calls}
+use Rattle.driver.specs.Lay.{avail_at}
 use Rattle.driver.specs.Fit.{LayFit}
 use Rattle.trips.specs.Stands.{Stands, Waits}
 use Rattle.trips.proofs.Fits.{writes-some}
@@ -37,8 +37,8 @@ cut-few n (s ∷ ss) = go (leb n s.len) (eqb n s.len) (cut-few (n - s.len) ss)
     go true false h = omega arith
     go false f h = omega arith
 
-data-few : (rs : List Span) (job : Job) → dataFetches rs job ≤ length (past 16 rs)
-unfolding dataFetches
+data-few : (rs : List Span) (job : Job) → data_fetches rs job ≤ length (past 16 rs)
+unfolding data_fetches
 data-few rs Failed = omega arith
 data-few rs Unsupported = omega arith
 data-few rs Done = omega arith
@@ -54,7 +54,7 @@ fetches-few rs job =
 -- what the steps come to once a chain with a writable buffer was followed to its end
 calls-few : (c : Cfg) (v : Seen) (t : ℕ) (rs ws : List Span) (last : ℕ) → 1 ≤ pending v.idx t → pending v.idx t ≤ c.queue.size → v.entry < c.queue.size → 1 ≤ length ws
     → follow c v v.entry (c.queue.size + 1) v.entry [] [] ≡ whole rs ws last → calls c v t ≤ 5 + (length rs + length ws) + length rs
-unfolding calls chainCalls
+unfolding calls chain_calls
 calls-few c v t rs ws last hp hq n l f =
     rw (
       ne_eqb (pending v.idx t) 0 (λ x. omega arith),
@@ -73,7 +73,7 @@ few-here c {reads = reads} {e = e} {spots = spots} {nums = nums} fit message m�
     let n = fit.numbers 0 (omega (arith, writes-some fit)) in
     let lr = length-spans reads 0 spots in
     let lw = length-spans (e - reads) reads spots in
-    let h = word 2 (availAt c.queue t) m₂ in
+    let h = word 2 (avail_at c.queue t) m₂ in
     let k = calls-few c (still c.queue t m₂) t (spans reads 0 spots) (spans (e - reads) reads spots) (get_or nums (e - 1) 0) w.waits w.few (rw w.entry-is n)
     (omega (arith, writes-some fit)) (follow-whole c fit message m₂ st t h h c.queue.size w.entry-is (omega (arith, fit.few))) in
     omega (arith, fit.reads_in)

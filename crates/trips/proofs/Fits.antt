@@ -7,8 +7,8 @@ use mathlib.Core.Path.{◌≡◌}
 use mathlib.Core.List.{List, ◌∷◌}
 use lib.Dec.{eqb}
 use lib.ListN.{get_or}
-use Rattle.model.specs.Ring.{sizeMax}
-use Rattle.model.specs.Memory.{Region, sound, regionCode}
+use Rattle.model.specs.Ring.{size_max}
+use Rattle.model.specs.Memory.{Region, sound, region_code}
 use Rattle.model.specs.Step.{spans}
 use Rattle.model.specs.declared.Queue.{Queue}
 use Rattle.model.proofs.Tests.{told, picked}
@@ -30,8 +30,8 @@ in_some (r ∷ rest) a n x (later w) = in_some rest a n x w
 in-below : (m : ℕ) (rs : List Region) (a n x : ℕ) → sound m rs ≡ true → InOne rs a n x → a + n ≤ 2 ^ 64 - 1
 unfolding sound
 in-below m (r ∷ rest) a n x s (here w) =
-    let p = picked (eqb (regionCode m r) 0) (sound m rest) s in let k = region-sound m r (omega (told, p.0)) in omega arith
-in-below m (r ∷ rest) a n x s (later w) = in-below m rest a n x (picked (eqb (regionCode m r) 0) (sound m rest) s).1 w
+    let p = picked (eqb (region_code m r) 0) (sound m rest) s in let k = region-sound m r (omega (told, p.0)) in omega arith
+in-below m (r ∷ rest) a n x s (later w) = in-below m rest a n x (picked (eqb (region_code m r) 0) (sound m rest) s).1 w
 
 some-span : (n k : ℕ) (spots : List ℕ) → 1 ≤ total (spans n k spots) → 1 ≤ n
 unfolding total spans
@@ -56,7 +56,7 @@ module _ {q : Queue} {rs : List Region} {m : ℕ} {own : List ℕ} {kind r : ℕ
       let l = locate-slice m rs (get_or bufs (2 * i) 0) (get_or bufs (2 * i + 1) 0) (get_or spots (2 * i) 0) fit.map-sound s.located in
       record { some = omega (arith, s.len_is); len_is = s.len_is; short = s.short; inside = omega (arith, s.len_is); below = omega arith }
 
-  pub size_in : (1 ≤ q.size) × (q.size ≤ sizeMax)
+  pub size_in : (1 ≤ q.size) × (q.size ≤ size_max)
   size_in = size-range q.size fit.size_ok
 
   -- two different buffers

@@ -17,9 +17,9 @@ use Rattle.model.proofs.Memory.{overlap-false}
 use Rattle.model.proofs.Step.{length-apply}
 use Rattle.model.proofs.Words.{word-cong}
 use Rattle.model.proofs.Lists.{Disjoint, length-put, put-apart, part-cong, part-put-in, part-put-other, length_part}
-use Rattle.requests.specs.Serve.{gather, total, lastByte}
+use Rattle.requests.specs.Serve.{gather, total, last_byte_at}
 use Rattle.requests.proofs.Spans.{Inside}
-use Rattle.driver.specs.Lay.{clearOf, separate}
+use Rattle.driver.specs.Lay.{clear_of, separate}
 use Rattle.trips.specs.Stands.{Same}
 use Rattle.trips.proofs.Lists.{put_front, put-behind, disjoint-sym, disjoint-in, disjoint-apart}
 
@@ -43,13 +43,13 @@ not-true : (b c : Bool) → pick b false c ≡ true → (b ≡ false) × (c ≡ 
 not-true true c e = (sym e, let z : ◌≡◌ {A = Bool} true false = cc in cc)
 not-true false c e = (refl, e)
 
-off_at : (s : Span) (n k : ℕ) (spots : List ℕ) → clearOf s (spans n k spots) ≡ true → (j : ℕ) → k ≤ j → j < k + n
+off_at : (s : Span) (n k : ℕ) (spots : List ℕ) → clear_of s (spans n k spots) ≡ true → (j : ℕ) → k ≤ j → j < k + n
     → Disjoint s.at s.len (get_or spots (2 * j) 0) (get_or spots (2 * j + 1) 0)
-unfolding clearOf spans
+unfolding clear_of spans
 off_at s zero k spots e j l u = absurd (omega arith)
 off_at s (suc n) k spots e j l u = go (eqb j k) refl (λ x y. off_at s n (suc k) spots p.1 j x y)
   where
-    p : (overlap s.at s.len (get_or spots (2 * k) 0) (get_or spots (2 * k + 1) 0) ≡ false) × (clearOf s (spans n (suc k) spots) ≡ true)
+    p : (overlap s.at s.len (get_or spots (2 * k) 0) (get_or spots (2 * k + 1) 0) ≡ false) × (clear_of s (spans n (suc k) spots) ≡ true)
     p = not-true (overlap s.at s.len (get_or spots (2 * k) 0) (get_or spots (2 * k + 1) 0)) _ e
 
     go : (b : Bool) → eqb j k ≡ b → (suc k ≤ j → j < suc k + n → Disjoint s.at s.len (get_or spots (2 * j) 0) (get_or spots (2 * j + 1) 0))
@@ -64,8 +64,8 @@ unfolding separate spans
 apart_from zero k spots e i j l h u = absurd (omega arith)
 apart_from (suc n) k spots e i j l h u = go (eqb i k) refl (λ x. apart_from n (suc k) spots p.1 i j x h (omega arith))
   where
-    p : (clearOf (record { at = get_or spots (2 * k) 0; len = get_or spots (2 * k + 1) 0 }) (spans n (suc k) spots) ≡ true) × (separate (spans n (suc k) spots) ≡ true)
-    p = picked (clearOf (record { at = get_or spots (2 * k) 0; len = get_or spots (2 * k + 1) 0 }) (spans n (suc k) spots)) _ e
+    p : (clear_of (record { at = get_or spots (2 * k) 0; len = get_or spots (2 * k + 1) 0 }) (spans n (suc k) spots) ≡ true) × (separate (spans n (suc k) spots) ≡ true)
+    p = picked (clear_of (record { at = get_or spots (2 * k) 0; len = get_or spots (2 * k + 1) 0 }) (spans n (suc k) spots)) _ e
 
     go : (b : Bool) → eqb i k ≡ b → (suc k ≤ i → Disjoint (get_or spots (2 * i) 0) (get_or spots (2 * i + 1) 0) (get_or spots (2 * j) 0) (get_or spots (2 * j + 1) 0))
         → Disjoint (get_or spots (2 * i) 0) (get_or spots (2 * i + 1) 0) (get_or spots (2 * j) 0) (get_or spots (2 * j + 1) 0)
@@ -191,28 +191,28 @@ gather-scatter (s ∷ ss) bs m e k =
     rw (a, b, g, h, f)
 
 -- The last byte of some buffers lies in one of them ..
-pub last_off : (a n : ℕ) (s : Span) (ss : List Span) (m : ℕ) → Off a n (s ∷ ss) → Inside m (s ∷ ss) → Disjoint a n (lastByte (s ∷ ss)) 1
-unfolding Off Inside lastByte
+pub last_off : (a n : ℕ) (s : Span) (ss : List Span) (m : ℕ) → Off a n (s ∷ ss) → Inside m (s ∷ ss) → Disjoint a n (last_byte_at (s ∷ ss)) 1
+unfolding Off Inside last_byte_at
 last_off a n s [] m o k = disjoint-in a n s.at s.len a n (s.at + (s.len - 1)) 1 o.0 (omega arith) (omega arith) (omega arith) (omega arith)
 last_off a n s (t ∷ ss) m o k = last_off a n t ss m o.1 k.2
 
-pub last-in : (m : ℕ) (s : Span) (ss : List Span) → Inside m (s ∷ ss) → lastByte (s ∷ ss) < m
-unfolding Inside lastByte
+pub last-in : (m : ℕ) (s : Span) (ss : List Span) → Inside m (s ∷ ss) → last_byte_at (s ∷ ss) < m
+unfolding Inside last_byte_at
 last-in m s [] k = omega arith
 last-in m s (t ∷ ss) k = last-in m t ss k.2
 
 -- .. and is the last of their string.
 pub gather-last : (s : Span) (ss : List Span) (b : ℕ) (m : List ℕ) → Each (s ∷ ss) → Inside (length m) (s ∷ ss)
-    → gather (put m (lastByte (s ∷ ss)) (b ∷ [])) (s ∷ ss) ≡ put (gather m (s ∷ ss)) (total (s ∷ ss) - 1) (b ∷ [])
-unfolding gather Each Inside lastByte total
+    → gather (put m (last_byte_at (s ∷ ss)) (b ∷ [])) (s ∷ ss) ≡ put (gather m (s ∷ ss)) (total (s ∷ ss) - 1) (b ∷ [])
+unfolding gather Each Inside last_byte_at total
 gather-last s [] b m e k =
     let n : s.len + 0 - 1 ≡ s.len - 1 = omega arith in
     rw (append-nil (part s.at s.len (put m (s.at + (s.len - 1)) (b ∷ []))), append-nil (part s.at s.len m), n)
     (part-put-in m s.at s.len (s.len - 1) (b ∷ []))
 gather-last s (t ∷ ss) b m e k =
-    let g : gather (put m (lastByte (t ∷ ss)) (b ∷ [])) (t ∷ ss) ≡ put (gather m (t ∷ ss)) (total (t ∷ ss) - 1) (b ∷ []) = gather-last t ss b m e.1 k.2 in
-    let a : part s.at s.len (put m (lastByte (t ∷ ss)) (b ∷ [])) ≡ part s.at s.len m =
-    part-put-other m s.at s.len (lastByte (t ∷ ss)) (b ∷ []) (last_off s.at s.len t ss (length m) e.0 k.2) in
+    let g : gather (put m (last_byte_at (t ∷ ss)) (b ∷ [])) (t ∷ ss) ≡ put (gather m (t ∷ ss)) (total (t ∷ ss) - 1) (b ∷ []) = gather-last t ss b m e.1 k.2 in
+    let a : part s.at s.len (put m (last_byte_at (t ∷ ss)) (b ∷ [])) ≡ part s.at s.len m =
+    part-put-other m s.at s.len (last_byte_at (t ∷ ss)) (b ∷ []) (last_off s.at s.len t ss (length m) e.0 k.2) in
     let l : length (part s.at s.len m) ≡ s.len = length_part s.at s.len m k.1 in
     let n : s.len + total (t ∷ ss) - 1 ≡ length (part s.at s.len m) + (total (t ∷ ss) - 1) = omega (arith, k.2.0) in
     rw (n, a, put-behind (part s.at s.len m) (gather m (t ∷ ss)) (total (t ∷ ss) - 1) (b ∷ []))

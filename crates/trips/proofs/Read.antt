@@ -8,16 +8,16 @@ use lib.Dec.{eqb}
 use lib.ListN.{length, get_or, take, length-append}
 use Rattle.model.specs.Bytes.{put, part, word, bytes}
 use Rattle.model.specs.Memory.{Region}
-use Rattle.model.specs.Ring.{oneMore}
+use Rattle.model.specs.Ring.{plus_one}
 use Rattle.model.specs.Request.{status, reported}
-use Rattle.model.specs.Step.{Cfg, Span, Store, buffer, apply, scatter, spans, handed, usedAt, diskOf}
+use Rattle.model.specs.Step.{Cfg, Span, Store, buffer, apply, scatter, spans, handed, used_at, disk_of}
 use Rattle.model.specs.declared.Queue.{Queue}
 use Rattle.model.specs.declared.Job.{Job}
 use Rattle.model.proofs.Tests.{on}
 use Rattle.model.proofs.Step.{apply-append, length-apply, spans-turn}
 use Rattle.model.proofs.Words.{length-bytes, word-put, word-apart}
 use Rattle.model.proofs.Lists.{Apart, below, above, Disjoint, first, after, length-put, put-apart, put_in, part-put, part-put-other}
-use Rattle.requests.specs.Serve.{gather, total, walk, lastByte, answer, memoryAfter}
+use Rattle.requests.specs.Serve.{gather, total, walk, last_byte_at, answer, memory_after}
 use Rattle.requests.proofs.Spans.{Inside, last-is}
 use Rattle.driver.specs.Fit.{LayFit}
 use Rattle.trips.specs.Answered.{Answered}
@@ -28,13 +28,13 @@ use Rattle.trips.proofs.Taken.{more-below, length-spans}
 
 -- the memory after an answer, store by store
 pub answer-mem : (c : Cfg) (a : ℕ) (backing : List ℕ) (head : ℕ) (rs ws : List Span) (string : List ℕ) (job : Job) (mem : List ℕ)
-    → memoryAfter (answer c a backing head rs ws string job) mem
-    ≡ put (put (put (apply (scatter ws (handed c.id (diskOf c.disk backing) (walk head rs ws) job)) mem) (lastByte ws) (status job ∷ [])) (usedAt c.queue a) (bytes 4 head ++ bytes 4 (reported (status job) (total ws)))) (c.queue.used + 2) (bytes 2 (oneMore a))
-unfolding memoryAfter answer apply
+    → memory_after (answer c a backing head rs ws string job) mem
+    ≡ put (put (put (apply (scatter ws (handed c.id (disk_of c.disk backing) (walk head rs ws) job)) mem) (last_byte_at ws) (status job ∷ [])) (used_at c.queue a) (bytes 4 head ++ bytes 4 (reported (status job) (total ws)))) (c.queue.used + 2) (bytes 2 (plus_one a))
+unfolding memory_after answer apply
 answer-mem c a backing head rs ws string job mem =
-    let given : List ℕ = handed c.id (diskOf c.disk backing) (walk head rs ws) job in
-    let two : List Store = record { to = lastByte ws; bytes = status job ∷ [] } ∷ record { to = usedAt c.queue a; bytes = bytes 4 head ++ bytes 4 (reported (status job) (total ws)) } ∷ [] in
-    let one : List Store = record { to = c.queue.used + 2; bytes = bytes 2 (oneMore a) } ∷ [] in
+    let given : List ℕ = handed c.id (disk_of c.disk backing) (walk head rs ws) job in
+    let two : List Store = record { to = last_byte_at ws; bytes = status job ∷ [] } ∷ record { to = used_at c.queue a; bytes = bytes 4 head ++ bytes 4 (reported (status job) (total ws)) } ∷ [] in
+    let one : List Store = record { to = c.queue.used + 2; bytes = bytes 2 (plus_one a) } ∷ [] in
     apply-append (scatter ws given ++ two) one mem ∙ ap (λ (x : List ℕ). apply one x) (apply-append (scatter ws given) two mem)
 
 -- the number behind a number
@@ -53,28 +53,28 @@ module _ (q : Queue) (a head : ℕ) (s : Span) (ss : List Span) (job : Job) (giv
   filled = apply (scatter (s ∷ ss) given) m₂
 
   abbrev signed : List ℕ
-  signed = put filled (lastByte (s ∷ ss)) (status job ∷ [])
+  signed = put filled (last_byte_at (s ∷ ss)) (status job ∷ [])
 
   abbrev entered : ℕ → List ℕ
-  entered len = put signed (usedAt q a) (bytes 4 head ++ bytes 4 len)
+  entered len = put signed (used_at q a) (bytes 4 head ++ bytes 4 len)
 
   abbrev told_of : ℕ → List ℕ
-  told_of len = put (entered len) (q.used + 2) (bytes 2 (oneMore a))
+  told_of len = put (entered len) (q.used + 2) (bytes 2 (plus_one a))
 
   filled-long : length filled ≡ length m₂
   filled-long = length-apply (scatter (s ∷ ss) given) m₂
 
   signed-long : length signed ≡ length m₂
-  signed-long = length-put filled (lastByte (s ∷ ss)) (status job ∷ []) ∙ filled-long
+  signed-long = length-put filled (last_byte_at (s ∷ ss)) (status job ∷ []) ∙ filled-long
 
   entry-long : (len : ℕ) → length (bytes 4 head ++ bytes 4 len) ≡ 8
   entry-long len = simp (length-append, length-bytes)
 
   entered-long : (len : ℕ) → length (entered len) ≡ length m₂
-  entered-long len = length-put signed (usedAt q a) (bytes 4 head ++ bytes 4 len) ∙ signed-long
+  entered-long len = length-put signed (used_at q a) (bytes 4 head ++ bytes 4 len) ∙ signed-long
 
   told-long : (len : ℕ) → length (told_of len) ≡ length m₂
-  told-long len = length-put (entered len) (q.used + 2) (bytes 2 (oneMore a)) ∙ entered-long len
+  told-long len = length-put (entered len) (q.used + 2) (bytes 2 (plus_one a)) ∙ entered-long len
 
   -- a used entry lies in the used area
   entry_in : a % q.size < q.size
@@ -84,10 +84,10 @@ module _ (q : Queue) (a head : ℕ) (s : Span) (ss : List Span) (job : Job) (giv
   told-string : (len : ℕ) → gather (told_of len) (s ∷ ss) ≡ gather signed (s ∷ ss)
   told-string len =
       let k = entry_in in
-      gather-put (s ∷ ss) (entered len) (q.used + 2) (bytes 2 (oneMore a))
-      (off-in q.used (6 + 8 * q.size) (q.used + 2) (length (bytes 2 (oneMore a))) (s ∷ ss) (omega arith) (omega (arith, length-bytes 2 (oneMore a))) off)
-      ∙ gather-put (s ∷ ss) signed (usedAt q a) (bytes 4 head ++ bytes 4 len)
-      (off-in q.used (6 + 8 * q.size) (usedAt q a) (length (bytes 4 head ++ bytes 4 len)) (s ∷ ss) (omega arith) (omega (arith, entry-long len)) off)
+      gather-put (s ∷ ss) (entered len) (q.used + 2) (bytes 2 (plus_one a))
+      (off-in q.used (6 + 8 * q.size) (q.used + 2) (length (bytes 2 (plus_one a))) (s ∷ ss) (omega arith) (omega (arith, length-bytes 2 (plus_one a))) off)
+      ∙ gather-put (s ∷ ss) signed (used_at q a) (bytes 4 head ++ bytes 4 len)
+      (off-in q.used (6 + 8 * q.size) (used_at q a) (length (bytes 4 head ++ bytes 4 len)) (s ∷ ss) (omega arith) (omega (arith, entry-long len)) off)
 
   string-told : (len : ℕ) → gather (told_of len) (s ∷ ss) ≡ put (put (gather m₂ (s ∷ ss)) 0 given) (total (s ∷ ss) - 1) (status job ∷ [])
   string-told len =
@@ -98,29 +98,29 @@ module _ (q : Queue) (a head : ℕ) (s : Span) (ss : List Span) (job : Job) (giv
   byte_left : (len i : ℕ) → Disjoint q.used (6 + 8 * q.size) i 1 → get_or (told_of len) i 0 ≡ get_or signed i 0
   byte_left len i d =
       let k = entry_in in
-      put-apart (entered len) (q.used + 2) (bytes 2 (oneMore a)) i (one_apart d (q.used + 2) (length (bytes 2 (oneMore a))) (omega arith) (omega (arith, length-bytes 2 (oneMore a))))
-      ∙ put-apart signed (usedAt q a) (bytes 4 head ++ bytes 4 len) i (one_apart d (usedAt q a) (length (bytes 4 head ++ bytes 4 len)) (omega arith) (omega (arith, entry-long len)))
+      put-apart (entered len) (q.used + 2) (bytes 2 (plus_one a)) i (one_apart d (q.used + 2) (length (bytes 2 (plus_one a))) (omega arith) (omega (arith, length-bytes 2 (plus_one a))))
+      ∙ put-apart signed (used_at q a) (bytes 4 head ++ bytes 4 len) i (one_apart d (used_at q a) (length (bytes 4 head ++ bytes 4 len)) (omega arith) (omega (arith, entry-long len)))
     where
       one_apart : Disjoint q.used (6 + 8 * q.size) i 1 → (b n : ℕ) → q.used ≤ b → b + n ≤ q.used + (6 + 8 * q.size) → Apart i b n
       one_apart (first h) b n x y = above (omega arith)
       one_apart (after h) b n x y = below (omega arith)
 
-  status-told : (len : ℕ) → get_or (told_of len) (lastByte (s ∷ ss)) 0 ≡ status job
+  status-told : (len : ℕ) → get_or (told_of len) (last_byte_at (s ∷ ss)) 0 ≡ status job
   status-told len =
-      byte_left len (lastByte (s ∷ ss)) (last_off q.used (6 + 8 * q.size) s ss (length m₂) off inside)
-      ∙ rw (add-zero (lastByte (s ∷ ss))) at (put_in filled (lastByte (s ∷ ss)) (status job ∷ []) 0 (omega arith) (omega (arith, filled-long, last-in (length m₂) s ss inside)))
+      byte_left len (last_byte_at (s ∷ ss)) (last_off q.used (6 + 8 * q.size) s ss (length m₂) off inside)
+      ∙ rw (add-zero (last_byte_at (s ∷ ss))) at (put_in filled (last_byte_at (s ∷ ss)) (status job ∷ []) 0 (omega arith) (omega (arith, filled-long, last-in (length m₂) s ss inside)))
 
   answered : (len : ℕ) → len ≡ reported (status job) (total (s ∷ ss)) → head < 2 ^ 32 → len < 2 ^ 32 → Answered q a head (s ∷ ss) job given m₂ (told_of len)
   answered len el hh hl =
       let k = entry_in in
-      let n = length-bytes 2 (oneMore a) in
+      let n = length-bytes 2 (plus_one a) in
       let l = length-gather (s ∷ ss) m₂ inside in
       record {
-        idx-is = word-put 2 (q.used + 2) (oneMore a) (entered len) (more-below a) (omega (arith, entered-long len));
-        head-is = word-apart 4 (usedAt q a) (entered len) (q.used + 2) (bytes 2 (oneMore a)) (after (omega arith))
-            ∙ word-front 4 (usedAt q a) head signed (bytes 4 len) (omega arith) (omega (arith, signed-long));
-        len_is = word-apart 4 (usedAt q a + 4) (entered len) (q.used + 2) (bytes 2 (oneMore a)) (after (omega arith))
-            ∙ word-behind 4 (usedAt q a) head len signed (omega arith) (omega (arith, signed-long)) ∙ el;
+        idx-is = word-put 2 (q.used + 2) (plus_one a) (entered len) (more-below a) (omega (arith, entered-long len));
+        head-is = word-apart 4 (used_at q a) (entered len) (q.used + 2) (bytes 2 (plus_one a)) (after (omega arith))
+            ∙ word-front 4 (used_at q a) head signed (bytes 4 len) (omega arith) (omega (arith, signed-long));
+        len_is = word-apart 4 (used_at q a + 4) (entered len) (q.used + 2) (bytes 2 (plus_one a)) (after (omega arith))
+            ∙ word-behind 4 (used_at q a) head len signed (omega arith) (omega (arith, signed-long)) ∙ el;
         status-is = status-told len;
         given_is = λ e. rw (string-told len) (front (gather m₂ (s ∷ ss)) given (total (s ∷ ss) - 1) (status job ∷ []) e (omega arith));
         string-is = string-told len;
@@ -142,7 +142,7 @@ module _ {q : Queue} {rs : List Region} {m : ℕ} {own : List ℕ} {kind r : ℕ
   turn = spans-turn reads e spots (writes-some fit)
 
   -- the last writable byte is that of the last buffer
-  pub last-at : lastByte (spans (e - reads) reads spots) ≡ get_or spots (2 * (e - 1)) 0 + (get_or spots (2 * (e - 1) + 1) 0 - 1)
+  pub last-at : last_byte_at (spans (e - reads) reads spots) ≡ get_or spots (2 * (e - 1)) 0 + (get_or spots (2 * (e - 1) + 1) 0 - 1)
   last-at =
       let w = writes-some fit in
       let l : length (spans (e - (reads + 1)) (reads + 1) spots) ≡ e - (reads + 1) = length-spans (e - (reads + 1)) (reads + 1) spots in
@@ -153,12 +153,12 @@ module _ {q : Queue} {rs : List Region} {m : ℕ} {own : List ℕ} {kind r : ℕ
   module _ (c : Cfg) (same : c.queue ≡ q) (a head : ℕ) (backing : List ℕ) (rs₂ : List Span) (string : List ℕ) (job : Job) (m₂ : List ℕ) (long : length m₂ ≡ m) where
     -- An answer is read as it was given: the driver finds one answer more, the request's head, the length, the status and the data.
     pub answer-read : head < 2 ^ 32
-        → Answered q a head (spans (e - reads) reads spots) job (handed c.id (diskOf c.disk backing) (walk head rs₂ (spans (e - reads) reads spots)) job) m₂
-        (memoryAfter (answer c a backing head rs₂ (spans (e - reads) reads spots) string job) m₂)
+        → Answered q a head (spans (e - reads) reads spots) job (handed c.id (disk_of c.disk backing) (walk head rs₂ (spans (e - reads) reads spots)) job) m₂
+        (memory_after (answer c a backing head rs₂ (spans (e - reads) reads spots) string job) m₂)
     answer-read h =
         let ss : List Span = spans (e - (reads + 1)) (reads + 1) spots in
         let f = form-ok fit in
         rw (answer-mem c a backing head rs₂ (spans (e - reads) reads spots) string job m₂, same, turn)
-        (answered q a head (buffer spots reads) ss job (handed c.id (diskOf c.disk backing) (walk head rs₂ (buffer spots reads ∷ ss)) job) m₂ (rw turn at (writes-each fit)) (rw long (rw turn at (writes-inside fit)))
+        (answered q a head (buffer spots reads) ss job (handed c.id (disk_of c.disk backing) (walk head rs₂ (buffer spots reads ∷ ss)) job) m₂ (rw turn at (writes-each fit)) (rw long (rw turn at (writes-inside fit)))
         (rw turn at (writes-off q.used (6 + 8 * q.size) (λ j x y. disjoint-sym (buf-used fit j y)))) (rw long fit.used-in) (size_in fit).0
         (reported (status job) (total (buffer spots reads ∷ ss))) refl h (reported-below (status job) (total (buffer spots reads ∷ ss)) (rw turn at f.short)))

@@ -9,7 +9,7 @@ use lib.ListN.{length, get_or, length-append}
 use borrow.Author.Tests.{eqb-true}
 use Rattle.model.specs.Bytes.{put, word, bytes}
 use Rattle.model.specs.Memory.{Region}
-use Rattle.model.specs.Chain.{descAt}
+use Rattle.model.specs.Chain.{desc_at}
 use Rattle.model.specs.Step.{apply, scatter, spans}
 use Rattle.model.specs.declared.Queue.{Queue}
 use Rattle.model.proofs.Tests.{told, on}
@@ -18,9 +18,9 @@ use Rattle.model.proofs.Words.{length-bytes, word-put, word-apart}
 use Rattle.model.proofs.Lists.{Disjoint, after, length-put}
 use Rattle.requests.specs.Serve.{gather, total}
 use Rattle.requests.proofs.Spans.{Inside}
-use Rattle.driver.specs.Lay.{descriptor, flags_of, next_of, link, links, availAt, layStores}
+use Rattle.driver.specs.Lay.{descriptor, flags_of, next_of, link, links, avail_at, lay_stores}
 use Rattle.driver.specs.Fit.{LayFit}
-use Rattle.trips.specs.Stands.{Stands, descOf, Same}
+use Rattle.trips.specs.Stands.{Stands, desc_of, Same}
 use Rattle.trips.proofs.Lists.{put-over, put-after, word-front, disjoint-in}
 use Rattle.trips.proofs.Ranges.{Clear, apply-same, put_same, word_same, gather-same, gather-scatter, length-gather, same-spans}
 use Rattle.trips.proofs.Fits.{buf-ok, size_in, buf-avail, desc-avail, buf-num, nums-apart, entry_in, reads-each, reads-inside, writes-some}
@@ -31,8 +31,8 @@ length-descriptor addr len flags nx = simp (length-append, length-bytes)
 
 -- a descriptor that was put is read as that descriptor
 desc-put : (m : List ℕ) (k addr len flags nx : ℕ) → addr < 2 ^ 64 → len < 2 ^ 32 → flags < 65536 → nx < 65536 → k + 16 ≤ length m
-    → descAt k (put m k (descriptor addr len flags nx)) ≡ record { addr = addr; len = len; flags = flags; next = nx }
-unfolding descAt descriptor
+    → desc_at k (put m k (descriptor addr len flags nx)) ≡ record { addr = addr; len = len; flags = flags; next = nx }
+unfolding desc_at descriptor
 desc-put m k addr len flags nx ha hl hf hn r =
     let m₁ : List ℕ = put m k (bytes 8 addr) in
     let m₂ : List ℕ = put m₁ (k + 8) (bytes 4 len) in
@@ -56,8 +56,8 @@ desc-put m k addr len flags nx ha hl hf hn r =
     rw (a, p₁, b, p₂, c, p₃, d)
 
 -- memories with the same 16 bytes have the same descriptor
-pub desc-same : (k : ℕ) (m₁ m₂ : List ℕ) → Same k 16 m₁ m₂ → descAt k m₁ ≡ descAt k m₂
-unfolding descAt
+pub desc-same : (k : ℕ) (m₁ m₂ : List ℕ) → Same k 16 m₁ m₂ → desc_at k m₁ ≡ desc_at k m₂
+unfolding desc_at
 desc-same k m₁ m₂ f =
     rw (
       word_same k 16 8 k m₁ m₂ f (omega arith) (omega arith),
@@ -83,8 +83,8 @@ clear-links bufs nums desc reads e a l (suc n) k f =
     (rw z (f k (omega arith) (omega arith)), clear-links bufs nums desc reads e a l n (suc k) (λ j x y. f j (omega arith) (omega arith)))
 
 -- idx of the available ring is no entry of it
-pub publish-entry : (q : Queue) (nx idx : ℕ) (mem : List ℕ) → word 2 (availAt q nx) (put mem (q.avail + 2) (bytes 2 idx)) ≡ word 2 (availAt q nx) mem
-publish-entry q nx idx mem = word-apart 2 (availAt q nx) mem (q.avail + 2) (bytes 2 idx) (after (omega (arith, length-bytes 2 idx)))
+pub publish-entry : (q : Queue) (nx idx : ℕ) (mem : List ℕ) → word 2 (avail_at q nx) (put mem (q.avail + 2) (bytes 2 idx)) ≡ word 2 (avail_at q nx) mem
+publish-entry q nx idx mem = word-apart 2 (avail_at q nx) mem (q.avail + 2) (bytes 2 idx) (after (omega (arith, length-bytes 2 idx)))
 
 module _ {q : Queue} {rs : List Region} {m : ℕ} {own : List ℕ} {kind r : ℕ} {bufs : List ℕ} {reads e : ℕ} {spots nums : List ℕ} (fit : LayFit q rs m own kind r bufs reads e spots nums) where
   -- the number that follows in the chain is a descriptor's, or 0
@@ -96,8 +96,8 @@ module _ {q : Queue} {rs : List Region} {m : ℕ} {own : List ℕ} {kind r : ℕ
 
   -- n descriptors written, from that of buffer k on: the one of buffer i stands
   links-stand : (n k : ℕ) (mem : List ℕ) → length mem ≡ m → k + n ≡ e → (i : ℕ) → k ≤ i → i < e
-      → descAt (q.desc + 16 * get_or nums i 0) (apply (links bufs nums q.desc reads e n k) mem) ≡ descOf bufs nums reads e i
-  unfolding links link apply descOf
+      → desc_at (q.desc + 16 * get_or nums i 0) (apply (links bufs nums q.desc reads e n k) mem) ≡ desc_of bufs nums reads e i
+  unfolding links link apply desc_of
   links-stand zero k mem l h i x y = absurd (omega arith)
   links-stand (suc n) k mem l h i x y = go (eqb i k) refl (λ u. links-stand n (suc k) m₂ l₂ (omega arith) i u y)
     where
@@ -110,7 +110,7 @@ module _ {q : Queue} {rs : List Region} {m : ℕ} {own : List ℕ} {kind r : ℕ
       l₂ : length m₂ ≡ m
       l₂ = length-put mem (q.desc + 16 * get_or nums k 0) ds ∙ l
 
-      one : k < e → descAt (q.desc + 16 * get_or nums k 0) (apply (links bufs nums q.desc reads e n (suc k)) m₂) ≡ descOf bufs nums reads e k
+      one : k < e → desc_at (q.desc + 16 * get_or nums k 0) (apply (links bufs nums q.desc reads e n (suc k)) m₂) ≡ desc_of bufs nums reads e k
       one u =
           let b = buf-ok fit k u in
           let v = fit.numbers k u in
@@ -121,8 +121,8 @@ module _ {q : Queue} {rs : List Region} {m : ℕ} {own : List ℕ} {kind r : ℕ
           ∙ desc-put mem (q.desc + 16 * get_or nums k 0) (get_or bufs (2 * k) 0) (get_or bufs (2 * k + 1) 0) (flags_of (ltb k reads) (eqb (k + 1) e))
           (next_of (eqb (k + 1) e) (get_or nums (k + 1) 0)) b.below (omega (arith, b.short)) (flags-small (ltb k reads) (eqb (k + 1) e)) (next_small k u) (omega arith)
 
-      go : (b : Bool) → eqb i k ≡ b → (suc k ≤ i → descAt (q.desc + 16 * get_or nums i 0) (apply (links bufs nums q.desc reads e n (suc k)) m₂) ≡ descOf bufs nums reads e i)
-          → descAt (q.desc + 16 * get_or nums i 0) (apply (links bufs nums q.desc reads e n (suc k)) m₂) ≡ descOf bufs nums reads e i
+      go : (b : Bool) → eqb i k ≡ b → (suc k ≤ i → desc_at (q.desc + 16 * get_or nums i 0) (apply (links bufs nums q.desc reads e n (suc k)) m₂) ≡ desc_of bufs nums reads e i)
+          → desc_at (q.desc + 16 * get_or nums i 0) (apply (links bufs nums q.desc reads e n (suc k)) m₂) ≡ desc_of bufs nums reads e i
       go true b f = rw (eqb-true i k b) (one (omega told))
       go false b f = f (omega told)
 
@@ -165,11 +165,11 @@ module _ {q : Queue} {rs : List Region} {m : ℕ} {own : List ℕ} {kind r : ℕ
     abbrev laid : List ℕ
     laid = apply (links bufs nums q.desc reads e e 0) (apply (scatter (spans reads 0 spots) message) mem)
 
-    lay-mem : apply (layStores q nx message reads e bufs spots nums) mem ≡ put laid (availAt q nx) (bytes 2 (get_or nums 0 0))
-    unfolding layStores apply
+    lay-mem : apply (lay_stores q nx message reads e bufs spots nums) mem ≡ put laid (avail_at q nx) (bytes 2 (get_or nums 0 0))
+    unfolding lay_stores apply
     lay-mem =
-        apply-append (scatter (spans reads 0 spots) message) (links bufs nums q.desc reads e e 0 ++ (record { to = availAt q nx; bytes = bytes 2 (get_or nums 0 0) } ∷ [])) mem
-        ∙ apply-append (links bufs nums q.desc reads e e 0) (record { to = availAt q nx; bytes = bytes 2 (get_or nums 0 0) } ∷ [])
+        apply-append (scatter (spans reads 0 spots) message) (links bufs nums q.desc reads e e 0 ++ (record { to = avail_at q nx; bytes = bytes 2 (get_or nums 0 0) } ∷ [])) mem
+        ∙ apply-append (links bufs nums q.desc reads e e 0) (record { to = avail_at q nx; bytes = bytes 2 (get_or nums 0 0) } ∷ [])
         (apply (scatter (spans reads 0 spots) message) mem)
 
     laid-long : length laid ≡ m
@@ -194,20 +194,20 @@ module _ {q : Queue} {rs : List Region} {m : ℕ} {own : List ℕ} {kind r : ℕ
         }
 
     -- A request that was laid stands ..
-    pub lay-stands : Stands q bufs spots nums reads e message (apply (layStores q nx message reads e bufs spots nums) mem)
+    pub lay-stands : Stands q bufs spots nums reads e message (apply (lay_stores q nx message reads e bufs spots nums) mem)
     lay-stands =
         let n = entry_in fit nx in
         let b = length-bytes 2 (get_or nums 0 0) in
-        rw lay-mem (stands-avail message laid (availAt q nx) (bytes 2 (get_or nums 0 0)) laid-stands (omega arith) (omega arith))
+        rw lay-mem (stands-avail message laid (avail_at q nx) (bytes 2 (get_or nums 0 0)) laid-stands (omega arith) (omega arith))
 
     -- .. and its head is in the available ring.
-    pub lay-entry : word 2 (availAt q nx) (apply (layStores q nx message reads e bufs spots nums) mem) ≡ get_or nums 0 0
+    pub lay-entry : word 2 (avail_at q nx) (apply (lay_stores q nx message reads e bufs spots nums) mem) ≡ get_or nums 0 0
     lay-entry =
         let n = entry_in fit nx in
         let s = size_in fit in
         let z = fit.numbers 0 (omega (arith, writes-some fit)) in
         let a = fit.avail-in in
-        rw lay-mem (word-put 2 (availAt q nx) (get_or nums 0 0) laid (omega arith) (omega (arith, laid-long)))
+        rw lay-mem (word-put 2 (avail_at q nx) (get_or nums 0 0) laid (omega arith) (omega (arith, laid-long)))
 
-    pub lay-long : length (apply (layStores q nx message reads e bufs spots nums) mem) ≡ m
-    lay-long = length-apply (layStores q nx message reads e bufs spots nums) mem ∙ long
+    pub lay-long : length (apply (lay_stores q nx message reads e bufs spots nums) mem) ≡ m
+    lay-long = length-apply (lay_stores q nx message reads e bufs spots nums) mem ∙ long

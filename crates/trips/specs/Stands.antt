@@ -1,18 +1,18 @@
 -- What a request that the driver has laid is to a device: a chain of descriptors, and the message in its readable buffers.
 use Rattle.std.specs.Prelude.{ℕ, ◌+◌, ◌*◌, ◌≤◌, ◌<◌, List, ◌≡◌, ltb, eqb, get_or}
 use Rattle.model.specs.Bytes.{put, word, bytes}
-use Rattle.model.specs.Ring.{pending, oneMore}
-use Rattle.model.specs.Chain.{descAt}
+use Rattle.model.specs.Ring.{pending, plus_one}
+use Rattle.model.specs.Chain.{desc_at}
 use Rattle.model.specs.Step.{apply, spans}
 use Rattle.model.specs.declared.Queue.{Queue}
 use Rattle.model.specs.declared.Desc.{Desc}
 use Rattle.requests.specs.Serve.{gather}
-use Rattle.driver.specs.Lay.{flags_of, next_of, availAt, layStores}
+use Rattle.driver.specs.Lay.{flags_of, next_of, avail_at, lay_stores}
 
 -- the descriptor of buffer i of e, the first `reads` of them readable: its guest address and length, WRITE unless it is readable, NEXT unless it
 -- is the last, and the number of the next one
-unfoldable pub descOf : List ℕ → List ℕ → ℕ → ℕ → ℕ → Desc
-descOf bufs nums reads e i =
+unfoldable pub desc_of : List ℕ → List ℕ → ℕ → ℕ → ℕ → Desc
+desc_of bufs nums reads e i =
     record {
       addr = get_or bufs (2 * i) 0;
       len = get_or bufs (2 * i + 1) 0;
@@ -22,7 +22,7 @@ descOf bufs nums reads e i =
 
 -- The request stands in a memory: each of its descriptors is in the queue's table, and its readable buffers, one behind the other, hold the message.
 pub record Stands (q : Queue) (bufs spots nums : List ℕ) (reads e : ℕ) (message mem : List ℕ) : Type 0 where
-  pub descs : (i : ℕ) → i < e → descAt (q.desc + 16 * get_or nums i 0) mem ≡ descOf bufs nums reads e i
+  pub descs : (i : ℕ) → i < e → desc_at (q.desc + 16 * get_or nums i 0) mem ≡ desc_of bufs nums reads e i
   pub holds : gather mem (spans reads 0 spots) ≡ message
 
 -- two memories have the same n bytes from place a on
@@ -31,13 +31,13 @@ Same a n m₁ m₂ = (i : ℕ) → a ≤ i → i < a + n → get_or m₁ i 0 ≡
 
 -- The request is next for a device that has taken t entries: the t-th entry of the available ring is its head, and idx says that it waits.
 pub record Waits (q : Queue) (nums : List ℕ) (t : ℕ) (mem : List ℕ) : Type 0 where
-  pub entry-is : word 2 (availAt q t) mem ≡ get_or nums 0 0
+  pub entry-is : word 2 (avail_at q t) mem ≡ get_or nums 0 0
   pub waits : 1 ≤ pending (word 2 (q.avail + 2) mem) t
   pub few : pending (word 2 (q.avail + 2) mem) t ≤ q.size
 
 -- a memory after a request was laid as entry t, and idx was published
 abbrev pub published : Queue → ℕ → List ℕ → ℕ → ℕ → List ℕ → List ℕ → List ℕ → List ℕ → List ℕ
-published q t message reads e bufs spots nums mem = put (apply (layStores q t message reads e bufs spots nums) mem) (q.avail + 2) (bytes 2 (oneMore t))
+published q t message reads e bufs spots nums mem = put (apply (lay_stores q t message reads e bufs spots nums) mem) (q.avail + 2) (bytes 2 (plus_one t))
 
 -- The driver's own words of q descriptors, between two calls: a word that is not 0 is 1 + a head, and that head's word is the same.
 unfoldable pub Named : ℕ → List ℕ → Type 0

@@ -2,8 +2,8 @@
 // words that set-up and steps don't make count as a state with nothing set up.
 ghost use Rattle.std.specs.Prelude.{◌≡◌, ◌+◌, ◌*◌, ◌≤◌, leb, length, get_or};
 ghost use Rattle.model.specs.Bytes.{put};
-ghost use Rattle.model.specs.Ring.{sizeMax};
-ghost use Rattle.words.specs.Layout.{stateWords, sizeWord, tagWord, jobTag, jobSector, row, row_of, job_of, phaseOf, rowAt, rowWords, saved, kept, configAt, walkAt, placeAt, memoryOk, diskOk, queueOk, lentOk, tagsOk, phaseOk, enabledOk, framed, level};
+ghost use Rattle.model.specs.Ring.{size_max};
+ghost use Rattle.words.specs.Layout.{state_words, size_word, tag_word, job_tag, job_sector, row, row_of, job_of, phase_of, row_at, row_words, saved, kept, config_at, walk_at, place_at, memory_ok, disk_ok, queue_ok, lent_ok, tags_ok, phase_ok, enabled_ok, framed, level};
 
 use model::{Disk, Job, Phase, Place, Queue, Walk};
 
@@ -25,7 +25,7 @@ pub struct Row {
 }
 
 fn job_tag(job: Job) -> usize
-    ensures { result ≡ jobTag job }
+    ensures { result ≡ job_tag job }
 {
     match job {
         Job::Done => 0,
@@ -38,7 +38,7 @@ fn job_tag(job: Job) -> usize
 }
 
 fn job_sector(job: Job) -> usize
-    ensures { result ≡ jobSector job }
+    ensures { result ≡ job_sector job }
 {
     match job {
         Job::Done => 0,
@@ -123,7 +123,7 @@ pub fn row_of(p: Phase) -> Row
 }
 
 pub fn phase_of(x: Row) -> Phase
-    ensures { result ≡ phaseOf x }
+    ensures { result ≡ phase_of x }
 {
     let k = walk(x.head, x.count, x.reads, x.r, x.w);
     if x.tag == 1 {
@@ -166,8 +166,8 @@ pub fn phase_of(x: Row) -> Phase
 }
 
 pub fn row_at(s: &[usize]) -> Row
-    requires { stateWords ≤ length s.now }
-    ensures { result ≡ rowAt s.now }
+    requires { state_words ≤ length s.now }
+    ensures { result ≡ row_at s.now }
 {
     Row {
         tag: s[at::TAG],
@@ -184,8 +184,8 @@ pub fn row_at(s: &[usize]) -> Row
 }
 
 fn save_row(s: &mut [usize], x: Row)
-    requires { stateWords ≤ length s.old }
-    ensures { s.new ≡ put s.old tagWord (rowWords x) }
+    requires { state_words ≤ length s.old }
+    ensures { s.new ≡ put s.old tag_word (row_words x) }
 {
     s[at::TAG] = x.tag;
     s[at::HEAD] = x.head;
@@ -201,7 +201,7 @@ fn save_row(s: &mut [usize], x: Row)
 
 // The counters, the last complete chain's number of descriptors and the phase are all that steps change.
 pub fn save(s: &mut [usize], taken: usize, answered: usize, descs: usize, p: Phase)
-    requires { stateWords ≤ length s.old }
+    requires { state_words ≤ length s.old }
     ensures { s.new ≡ saved s.old taken answered descs p }
 {
     s[at::TAKEN] = taken;
@@ -212,7 +212,7 @@ pub fn save(s: &mut [usize], taken: usize, answered: usize, descs: usize, p: Pha
 
 // Most steps change the phase alone.
 pub fn save_phase(s: &mut [usize], p: Phase)
-    requires { stateWords ≤ length s.old }
+    requires { state_words ≤ length s.old }
     ensures { s.new ≡ kept s.old p }
 {
     save_row(s, row_of(p));
@@ -220,22 +220,22 @@ pub fn save_phase(s: &mut [usize], p: Phase)
 
 // The two phases that a long request stays in for many steps are saved without a choice by the phase.
 pub fn save_chain(s: &mut [usize], k: Walk, cur: usize)
-    requires { stateWords ≤ length s.old }
+    requires { state_words ≤ length s.old }
     ensures { s.new ≡ kept s.old (Phase.Chain k cur) }
 {
     save_row(s, numbers(3, k, cur, 0, 0, 0));
 }
 
 pub fn save_payload(s: &mut [usize], k: Walk, at: Place, sector: usize, got: usize)
-    requires { stateWords ≤ length s.old }
+    requires { state_words ≤ length s.old }
     ensures { s.new ≡ kept s.old (Phase.Payload k at sector got) }
 {
     save_row(s, numbers(5, k, at.buf, at.skip, sector, got));
 }
 
 pub fn queue_at(s: &[usize]) -> Queue
-    requires { stateWords ≤ length s.now }
-    ensures { result ≡ (configAt s.now).queue }
+    requires { state_words ≤ length s.now }
+    ensures { result ≡ (config_at s.now).queue }
 {
     Queue {
         size: s[at::SIZE],
@@ -246,8 +246,8 @@ pub fn queue_at(s: &[usize]) -> Queue
 }
 
 pub fn disk_at(s: &[usize]) -> Disk
-    requires { stateWords ≤ length s.now }
-    ensures { result ≡ (configAt s.now).disk }
+    requires { state_words ≤ length s.now }
+    ensures { result ≡ (config_at s.now).disk }
 {
     Disk {
         start: s[at::START],
@@ -257,15 +257,15 @@ pub fn disk_at(s: &[usize]) -> Disk
 }
 
 pub fn walk_at(s: &[usize]) -> Walk
-    requires { stateWords ≤ length s.now }
-    ensures { result ≡ walkAt s.now }
+    requires { state_words ≤ length s.now }
+    ensures { result ≡ walk_at s.now }
 {
     walk(s[at::HEAD], s[at::COUNT], s[at::READS], s[at::R], s[at::W])
 }
 
 pub fn place_at(s: &[usize]) -> Place
-    requires { stateWords ≤ length s.now }
-    ensures { result ≡ placeAt s.now }
+    requires { state_words ≤ length s.now }
+    ensures { result ≡ place_at s.now }
 {
     Place {
         buf: s[at::A],
@@ -274,8 +274,8 @@ pub fn place_at(s: &[usize]) -> Place
 }
 
 fn memory_ok(s: &[usize]) -> bool
-    requires { stateWords ≤ length s.now }
-    ensures { result ≡ memoryOk s.now }
+    requires { state_words ≤ length s.now }
+    ensures { result ≡ memory_ok s.now }
 {
     let n = s[at::REGIONS];
     if n < 1 {
@@ -289,8 +289,8 @@ fn memory_ok(s: &[usize]) -> bool
 }
 
 fn disk_ok(s: &[usize]) -> bool
-    requires { stateWords ≤ length s.now }
-    ensures { result ≡ diskOk s.now }
+    requires { state_words ≤ length s.now }
+    ensures { result ≡ disk_ok s.now }
 {
     if disk::disk_code(s[at::START], s[at::SECTORS], s[at::BACKING_LEN]) != 0 {
         return false;
@@ -322,8 +322,8 @@ fn lent_ok(
     answered: usize,
     descs: usize,
 ) -> bool
-    requires { q ≤ sizeMax }
-    ensures { result ≡ lentOk q chain stage taken answered descs }
+    requires { q ≤ size_max }
+    ensures { result ≡ lent_ok q chain stage taken answered descs }
 {
     if chain < 2 * q {
         return false;
@@ -341,8 +341,8 @@ fn lent_ok(
 }
 
 fn queue_ok(s: &[usize]) -> bool
-    requires { stateWords ≤ length s.now }
-    ensures { result ≡ queueOk s.now }
+    requires { state_words ≤ length s.now }
+    ensures { result ≡ queue_ok s.now }
 {
     let q = s[at::SIZE];
     let m = s[at::MEM_LEN];
@@ -369,7 +369,7 @@ fn queue_ok(s: &[usize]) -> bool
 }
 
 fn tags_ok(tag: usize, job: usize) -> bool
-    ensures { result ≡ tagsOk tag job }
+    ensures { result ≡ tags_ok tag job }
 {
     if tag < 1 {
         return false;
@@ -384,9 +384,9 @@ fn tags_ok(tag: usize, job: usize) -> bool
 }
 
 fn phase_ok(s: &[usize]) -> bool
-    requires state_words_in_bounds { stateWords ≤ length s.now }
-    requires size_word_bound { get_or s.now sizeWord 0 ≤ sizeMax }
-    ensures { result ≡ phaseOk s.now }
+    requires state_words_in_bounds { state_words ≤ length s.now }
+    requires size_word_bound { get_or s.now size_word 0 ≤ size_max }
+    ensures { result ≡ phase_ok s.now }
 {
     if tags_ok(s[at::TAG], s[at::A]) {
         let x = row_at(s);
@@ -397,8 +397,8 @@ fn phase_ok(s: &[usize]) -> bool
 }
 
 fn enabled_ok(s: &[usize]) -> bool
-    requires { stateWords ≤ length s.now }
-    ensures { result ≡ enabledOk s.now }
+    requires { state_words ≤ length s.now }
+    ensures { result ≡ enabled_ok s.now }
 {
     if queue_ok(s) {
         return phase_ok(s);
@@ -408,7 +408,7 @@ fn enabled_ok(s: &[usize]) -> bool
 
 // Is a queue enabled, as far as that doesn't hang on the phase? A step tests the rest by itself, for its own phase alone.
 pub fn framed(s: &[usize]) -> bool
-    requires { stateWords ≤ length s.now }
+    requires { state_words ≤ length s.now }
     ensures { result ≡ framed s.now }
 {
     if s[at::LEVEL] == 3 {
@@ -425,7 +425,7 @@ pub fn framed(s: &[usize]) -> bool
 
 // How far set-up has come: 0 nothing, 1 memory, 2 disk, 3 enabled.
 pub fn level(s: &[usize]) -> usize
-    requires { stateWords ≤ length s.now }
+    requires { state_words ≤ length s.now }
     ensures { result ≡ level s.now }
 {
     let tag = s[at::LEVEL];

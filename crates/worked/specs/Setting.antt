@@ -8,9 +8,9 @@ use Rattle.model.specs.declared.Phase.TheVariants.{Poll, Entry, Chain, Header, P
 use Rattle.model.specs.Pick.{both}
 
 -- 03 §6: "byte i of the disk holds (7 i + i / 512) modulo 256, the quotient rounded down"
-unfoldable pub diskFrom : ℕ → ℕ → List ℕ
-diskFrom i zero = []
-diskFrom i (suc n) = (7 * i + i / 512) % 256 ∷ diskFrom (i + 1) n
+unfoldable pub disk_from : ℕ → ℕ → List ℕ
+disk_from i zero = []
+disk_from i (suc n) = (7 * i + i / 512) % 256 ∷ disk_from (i + 1) n
 
 -- 01 §6: "One region: guest 0x80000000, 65,536 bytes, at slice 0. q = 8"; 03 §6: "A disk of 64 sectors", here behind a neighbour's sector
 unfoldable pub cfg : ℕ → Cfg
@@ -23,7 +23,7 @@ cfg ro =
     }
 
 unfoldable pub backing : List ℕ
-backing = replicate 512 0xee ++ (diskFrom 0 32768 ++ replicate 512 0xee)
+backing = replicate 512 0xee ++ (disk_from 0 32768 ++ replicate 512 0xee)
 
 -- a descriptor's 16 bytes: "addr u64, len u32, flags u16, next u16"
 unfoldable pub desc : ℕ → ℕ → ℕ → ℕ → List ℕ
@@ -88,26 +88,26 @@ same [] (y ∷ ys) = false
 same (x ∷ xs) [] = false
 same (x ∷ xs) (y ∷ ys) = both (eqb x y) (same xs ys)
 
-unfoldable pub phaseIs : Phase → ℕ → ℕ → ℕ → ℕ → Bool
-phaseIs Poll a b c d = false
-phaseIs Entry a b c d = false
-phaseIs (Chain k cur) a b c d = false
-phaseIs (Header k p got) a b c d = false
-phaseIs (Payload k p s got) a b c d = false
-phaseIs (Answer k job got) a b c d = false
-phaseIs (Publish k got) a b c d = false
-phaseIs (Broken reason head count at) a b c d = both (eqb reason a) (both (eqb head b) (both (eqb count c) (eqb at d)))
+unfoldable pub phase_is : Phase → ℕ → ℕ → ℕ → ℕ → Bool
+phase_is Poll a b c d = false
+phase_is Entry a b c d = false
+phase_is (Chain k cur) a b c d = false
+phase_is (Header k p got) a b c d = false
+phase_is (Payload k p s got) a b c d = false
+phase_is (Answer k job got) a b c d = false
+phase_is (Publish k got) a b c d = false
+phase_is (Broken reason head count at) a b c d = both (eqb reason a) (both (eqb head b) (both (eqb count c) (eqb at d)))
 
-unfoldable pub answeredBy : List ℕ → ℕ → ℕ → ℕ → Bool
-answeredBy mem w st len = both (eqb (get_or mem (0x5000 + w - 1) 9) st) (both (eqb (word 4 0x3008 mem) len) (eqb (word 2 0x3002 mem) 1))
+unfoldable pub answered_by : List ℕ → ℕ → ℕ → ℕ → Bool
+answered_by mem w st len = both (eqb (get_or mem (0x5000 + w - 1) 9) st) (both (eqb (word 4 0x3008 mem) len) (eqb (word 2 0x3002 mem) 1))
 
 -- the queue broke after n calls: the reason, the head, the descriptors fetched and the one refused; the descriptors of the last complete chain;
 -- and memory and backing slice are as they were
 unfoldable pub breaks : ℕ → List ℕ → ℕ → ℕ → ℕ → ℕ → ℕ → Bool
 breaks n mem reason head count at descs =
     let o = after 0 n (fresh 0 mem) in
-    both (phaseIs o.state.phase reason head count at) (both (eqb o.state.descs descs) (both (same o.mem mem) (same o.backing backing)))
+    both (phase_is o.state.phase reason head count at) (both (eqb o.state.descs descs) (both (same o.mem mem) (same o.backing backing)))
 
 -- one request of a readable and a writable buffer was answered by n calls: with this status byte, this length, and used idx 1
 unfoldable pub answers : ℕ → ℕ → ℕ → ℕ → ℕ → ℕ → ℕ → ℕ → Bool
-answers ro n type sector r w st len = answeredBy (after ro n (fresh 0 (asked type sector (desc 0x80004000 r 1 1 ++ desc 0x80005000 w 2 0)))).mem w st len
+answers ro n type sector r w st len = answered_by (after ro n (fresh 0 (asked type sector (desc 0x80004000 r 1 1 ++ desc 0x80005000 w 2 0)))).mem w st len

@@ -1,6 +1,6 @@
 use native.Mathlib.Omega.{arith}
-use Rattle.model.specs.Step.{spans, scatter, apply, writables, handed, diskOf, answerStores}
-use Rattle.model.specs.Sane.{allInside, jobOk}
+use Rattle.model.specs.Step.{spans, scatter, apply, writables, handed, disk_of, answer_stores}
+use Rattle.model.specs.Sane.{all_inside, job_ok}
 use Rattle.model.proofs.Step.{scatter-nil, apply-append}
 use Rattle.model.proofs.Sane.{read_fits}
 use Rattle.model.proofs.Lists.{part-part}

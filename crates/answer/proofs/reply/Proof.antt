@@ -1,7 +1,7 @@
 use native.Mathlib.Omega.{arith}
 use lib.ListN.{length-set}
 use mathlib.Core.Path.{◌∙◌}
-use Rattle.model.specs.Step.{answerStores, apply}
+use Rattle.model.specs.Step.{answer_stores, apply}
 use Rattle.model.proofs.Step.{apply-append}
 use Rattle.model.proofs.Lists.{put_one}
 use Rattle.answer.proofs.Laws.{last-in}
@@ -61,7 +61,7 @@ same_length : tie.Need-same-length
 same_length c = c.before.before.used-entry.auto.0 ∙ simp length-set c.before.before.before.before.before.before.before.before.before.before.before.hand.auto.1.1.1.1.1.1.1.1.0
 
 returns : tie.Need-returns
-unfolding answerStores apply
+unfolding answer_stores apply
 returns c = rw (c.before.before.used-entry.ensures, c.before.before.before.reported.ensures, c.before.before.before.before.before.status.ensures, apply-append, ← c.before.before.before.before.before.before.before.before.before.before.before.hand.ensures, put_one)
 
 pub reply-spec : {M : Type 1} → statement M

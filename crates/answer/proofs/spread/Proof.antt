@@ -7,14 +7,14 @@ use borrow.Author.Rules.{rules}
 use native.Mathlib.Omega.{arith}
 use Rattle.model.specs.Bytes.{put, part}
 use Rattle.model.specs.Step.{spans, scatter, apply}
-use Rattle.model.specs.Sane.{allInside}
+use Rattle.model.specs.Sane.{all_inside}
 use Rattle.model.proofs.Step.{spread-turn, spread_end}
 use Rattle.model.proofs.Sane.{inside-here, inside-rest}
 use Rattle.answer.proofs.spread.Statement.{statement}
 use Rattle.answer.proofs.spread.Tie as tie
 
 abbrev invariant-loop : tie.invariant-loop
-invariant-loop src from n chain first end mem₀ i₀ pos₀ left₀ mem i pos left = (pos + left ≤ length src) × (length mem ≡ length mem₀) × (allInside (length mem₀) (spans (end - i) i chain) ≡ true) × (apply (scatter (spans (end - first) first chain) (part from n src)) mem₀ ≡ apply (scatter (spans (end - i) i chain) (part pos left src)) mem)
+invariant-loop src from n chain first end mem₀ i₀ pos₀ left₀ mem i pos left = (pos + left ≤ length src) × (length mem ≡ length mem₀) × (all_inside (length mem₀) (spans (end - i) i chain) ≡ true) × (apply (scatter (spans (end - first) first chain) (part from n src)) mem₀ ≡ apply (scatter (spans (end - i) i chain) (part pos left src)) mem)
 
 abbrev decreases-loop : tie.decreases-loop
 decreases-loop src from n chain first end mem₀ i₀ pos₀ left₀ mem i pos left = end - i

@@ -1,5 +1,5 @@
 use Rattle.model.specs.Bytes.{put, part, bytes}
-use Rattle.answer.specs.Identity.{idBytes}
+use Rattle.answer.specs.Identity.{id_bytes}
 use borrow.Author.Rules.{rules}
 use Rattle.answer.proofs.spread_identity.Statement.{statement}
 use Rattle.answer.proofs.spread_identity.Tie as tie
@@ -32,7 +32,7 @@ same_length : tie.Need-same-length
 same_length c = search rules
 
 returns : tie.Need-returns
-unfolding idBytes part put bytes
+unfolding id_bytes part put bytes
 returns c = rw (c.before.before.spread.ensures, c.before.before.before.before.before.before.put32.ensures, c.before.before.before.before.before.before.before.before.before.put642.ensures, c.before.before.before.before.before.before.before.before.before.before.before.before.put64.ensures)
 
 pub spread-identity-spec : {M : Type 1} → statement M

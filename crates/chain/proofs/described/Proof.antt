@@ -1,7 +1,7 @@
 -- The judge's answer is the model's `tested`; each arm keeps and goes on as the table says.
 use mathlib.Core.Path.{◌≡◌, refl, sym, ◌∙◌, ap}
 use borrow.Author.Tests.{ne_eqb, eq-eqb, lt-ltb, le-ltb, le-leb, lt-leb, leb-false}
-use Rattle.model.specs.Chain.{descAt, testedBy, tested, tally, held, complete, described, descsAfter, keeps}
+use Rattle.model.specs.Chain.{desc_at, tested_by, tested, tally, held, complete, described, descs_after, keeps}
 use native.Mathlib.Omega.{arith}
 use Rattle.model.proofs.Chain.{next-room, last-room}
 use borrow.Author.Rules.{rules}
@@ -45,21 +45,21 @@ add-t27 : tie.Need-overflow-add-t27
 add-t27 c = omega (arith, c.before.before.before.before.before.before.before.before.before.before.before.before.before.before.requires)
 
 returns : tie.Need-returns
-unfolding tested described descsAfter keeps
+unfolding tested described descs_after keeps
 returns c = let l = c.before.before.before.before.before.locate.ensures in let j = c.before.before.before.before.judge.ensures in let g = c.before.before.t.given.1 in (rw (← l, ← j, g), (rw (← l, ← j, g), rw (← l, ← j, g)))
 
 same_length : tie.Need-same-length
 same_length c = search rules
 
 returns-2 : tie.Need-returns-2
-unfolding tested described descsAfter keeps
+unfolding tested described descs_after keeps
 returns-2 c = let l = c.before.before.before.before.before.before.before.before.before.locate.ensures in let j = c.before.before.before.before.before.before.before.before.judge.ensures in let g = c.before.before.before.before.before.before.t2.given.1 in (rw (← l, ← j, g, c.tally.ensures), (rw (← l, ← j, g), rw (← l, ← j, g) c.before.before.before.hold.ensures))
 
 same-length-2 : tie.Need-same-length-2
 same-length-2 c = search rules
 
 returns-3 : tie.Need-returns-3
-unfolding tested described descsAfter keeps
+unfolding tested described descs_after keeps
 returns-3 c = let l = c.before.before.before.before.before.before.before.before.before.before.before.locate.ensures in let j = c.before.before.before.before.before.before.before.before.before.before.judge.ensures in let g = c.before.before.before.before.before.before.before.before.t3.given.1 in (rw (← l, ← j, g, c.before.complete.ensures, c.before.before.tally2.ensures), (rw (← l, ← j, g), rw (← l, ← j, g) c.before.before.before.before.before.hold2.ensures))
 
 pub described-spec : {M : Type 1} → statement M

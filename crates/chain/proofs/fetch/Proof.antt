@@ -1,4 +1,4 @@
-use Rattle.model.specs.Chain.{descAt, testedBy, tested, tally, held, complete, described, keeps}
+use Rattle.model.specs.Chain.{desc_at, tested_by, tested, tally, held, complete, described, keeps}
 use borrow.Author.Rules.{rules}
 use Rattle.chain.proofs.fetch.Statement.{statement}
 use Rattle.chain.proofs.fetch.Tie as tie
@@ -25,7 +25,7 @@ get16-requires-2 : tie.Need-get16-requires-2
 get16-requires-2 c κs = search rules
 
 returns : tie.Need-returns
-unfolding descAt
+unfolding desc_at
 returns c = record { is = rw (c.before.before.before.get64.ensures, c.before.before.get32.ensures.0, c.before.get16.ensures.0, c.get162.ensures.0); len-fits = search rules; next_fits = search rules }
 
 pub fetch_spec : {M : Type 1} → statement M

@@ -1,6 +1,6 @@
 use Rattle.model.proofs.Lists.{put-cons, put-nil}
 use native.Mathlib.Numerals.{add-one}
-use Rattle.model.specs.Chain.{descAt, testedBy, tested, tally, held, complete, described, keeps}
+use Rattle.model.specs.Chain.{desc_at, tested_by, tested, tally, held, complete, described, keeps}
 use borrow.Author.Rules.{rules}
 use Rattle.chain.proofs.hold.Statement.{statement}
 use Rattle.chain.proofs.hold.Tie as tie

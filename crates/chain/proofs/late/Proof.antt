@@ -1,5 +1,5 @@
 use Rattle.model.proofs.Tests.{tests}
-use Rattle.model.specs.Chain.{descAt, testedBy, tested, tally, held, complete, described, keeps}
+use Rattle.model.specs.Chain.{desc_at, tested_by, tested, tally, held, complete, described, keeps}
 use Rattle.chain.proofs.late.Statement.{statement}
 use Rattle.chain.proofs.late.Tie as tie
 

@@ -1,5 +1,5 @@
 use Rattle.model.proofs.Tests.{tests}
-use Rattle.model.specs.Step.{codeAfter, onward, gathered, paid, ends}
+use Rattle.model.specs.Step.{code_after, onward, gathered, paid, ends}
 use borrow.Author.Rules.{rules}
 use Rattle.device.proofs.code_after.Statement.{statement}
 use Rattle.device.proofs.code_after.Tie as tie
@@ -29,35 +29,35 @@ enum-told-8 : tie.Need-enum-told-8
 enum-told-8 c = search rules
 
 returns : tie.Need-returns
-unfolding codeAfter
+unfolding code_after
 returns c = search tests
 
 returns-2 : tie.Need-returns-2
-unfolding codeAfter
+unfolding code_after
 returns-2 c = search tests
 
 returns-3 : tie.Need-returns-3
-unfolding codeAfter
+unfolding code_after
 returns-3 c = search tests
 
 returns-4 : tie.Need-returns-4
-unfolding codeAfter
+unfolding code_after
 returns-4 c = search tests
 
 returns-5 : tie.Need-returns-5
-unfolding codeAfter
+unfolding code_after
 returns-5 c = search tests
 
 returns-6 : tie.Need-returns-6
-unfolding codeAfter
+unfolding code_after
 returns-6 c = search tests
 
 returns-7 : tie.Need-returns-7
-unfolding codeAfter
+unfolding code_after
 returns-7 c = search tests
 
 returns-8 : tie.Need-returns-8
-unfolding codeAfter
+unfolding code_after
 returns-8 c = search tests
 
 pub code-after-spec : {M : Type 1} → statement M

@@ -1,5 +1,5 @@
 use native.Mathlib.Omega.{arith}
-use Rattle.hostiledisk.specs.Calls.{chainWords, hdMemory, flag, diskSet, hdDisk, queueSet, enabledWith, hdEnableAt, hdReset, seen, seenOf, shown, statusWords, hdStatus, isBroken, longEnough, stepped, steppedOn, Going, hdStep, StepIs}
+use Rattle.hostiledisk.specs.Calls.{chain_words, hd_memory, flag, disk_set, hd_disk, queue_set, enabled_with, hd_enable_at, hd_reset, seen, seen_of, shown, status_words, hd_status, is_broken, long_enough, stepped, stepped_on, Going, hd_step, StepIs}
 use mathlib.Core.Path.{◌≡◌, refl, sym, ◌∙◌, ap}
 use Rattle.model.proofs.Ring.{size-range}
 use borrow.Author.Rules.{rules}
@@ -13,11 +13,11 @@ mul-result : tie.Need-overflow-mul-result
 mul-result c = omega (arith, size-range _ (sym c.before.size_ok.ensures ∙ c.if1.true))
 
 returns : tie.Need-returns
-unfolding chainWords
+unfolding chain_words
 returns c = rw (← c.before.size_ok.ensures, c.if1.true)
 
 returns-2 : tie.Need-returns-2
-unfolding chainWords
+unfolding chain_words
 returns-2 c = rw (← c.before.size_ok.ensures, c.if1.false)
 
 pub hd-chain-words-spec : {M : Type 1} → statement M

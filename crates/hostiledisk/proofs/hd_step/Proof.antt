@@ -1,17 +1,17 @@
--- At each return the tests that led there choose the case of `hdStep`; a step is that of its phase (Phases).
+-- At each return the tests that led there choose the case of `hd_step`; a step is that of its phase (Phases).
 use mathlib.Core.Path.{◌≡◌, refl, sym, ◌∙◌}
 use borrow.Author.Tests.{lt-ltb}
-use Rattle.hostiledisk.specs.Calls.{hdStep}
+use Rattle.hostiledisk.specs.Calls.{hd_step}
 use Rattle.hostiledisk.proofs.Laws.{untouched-is}
 use Rattle.hostiledisk.proofs.Phases.{unframed, broken-is, short}
-use Rattle.words.specs.Layout.{stateWords}
+use Rattle.words.specs.Layout.{state_words}
 use borrow.Author.Rules.{rules}
 use Rattle.hostiledisk.proofs.hd_step.Statement.{statement}
 use Rattle.hostiledisk.proofs.hd_step.Tie as tie
 
 returns : tie.Need-returns
-unfolding hdStep
-returns c = rw (lt-ltb _ stateWords c.if1.true) (untouched-is _ _ _ _ _ _)
+unfolding hd_step
+returns c = rw (lt-ltb _ state_words c.if1.true) (untouched-is _ _ _ _ _ _)
 
 framed-requires : tie.Need-framed-requires
 framed-requires c κs = search rules

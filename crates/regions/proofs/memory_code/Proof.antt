@@ -1,5 +1,5 @@
--- The regions before i are seen and the others to come: `codeFrom` at i is the answer, and a refusal of the region at i is it.
-use Rattle.model.specs.Memory.{regionCode, clash, regionsMax}
+-- The regions before i are seen and the others to come: `code_from` at i is the answer, and a refusal of the region at i is it.
+use Rattle.model.specs.Memory.{region_code, clash, regions_max}
 use lib.Seq.{length-take-le}
 use Prim.Native.Nat.{◌≤◌, ◌+◌, ◌-◌, ◌%◌, ◌/◌}
 use mathlib.Core.Path.{◌≡◌, refl, sym, ◌∙◌}
@@ -7,33 +7,33 @@ use mathlib.Core.Bool.{true, false}
 use lib.ListN.{length, take, drop}
 use borrow.Author.Rules.{rules}
 use native.Mathlib.Omega.{arith}
-use Rattle.model.specs.Memory.{regions, regionsCode, memoryCode}
-use Rattle.model.proofs.Memory.{code-turn, code-none, codeFrom}
+use Rattle.model.specs.Memory.{regions, regions_code, memory_code}
+use Rattle.model.proofs.Memory.{code-turn, code-none, code_from}
 use borrow.Author.Tests.{ne_eqb, eq-eqb, lt-ltb, le-ltb, le-leb, lt-leb}
 use Rattle.regions.proofs.memory_code.Statement.{statement}
 use Rattle.regions.proofs.memory_code.Tie as tie
 
 abbrev invariant-loop : tie.invariant-loop
-invariant-loop m map i₀ i = (i ≤ length map + 2) × (i % 3 ≡ 0) × (memoryCode m map ≡ codeFrom m map i)
+invariant-loop m map i₀ i = (i ≤ length map + 2) × (i % 3 ≡ 0) × (memory_code m map ≡ code_from m map i)
 
 abbrev decreases-loop : tie.decreases-loop
 decreases-loop m map i₀ i = length map + 2 - i
 
 returns : tie.Need-returns invariant-loop decreases-loop
-unfolding memoryCode
+unfolding memory_code
 returns c = let l = length c.before.before.args.map.now in rw (ne_eqb (l % 3) 0 c.if1.true)
 
 returns-2 : tie.Need-returns-2 invariant-loop decreases-loop
-unfolding memoryCode
+unfolding memory_code
 returns-2 c = let l = length c.before.before.before.args.map.now in rw (eq-eqb (l % 3) 0 c.before.if1.false, lt-leb 1 (l / 3) (omega arith))
 
 returns-3 : tie.Need-returns-3 invariant-loop decreases-loop
-unfolding memoryCode
-returns-3 c = let l = length c.before.before.before.before.args.map.now in rw (eq-eqb (l % 3) 0 c.before.before.if1.false, le-leb 1 (l / 3) (omega arith), lt-leb (l / 3) regionsMax (omega arith))
+unfolding memory_code
+returns-3 c = let l = length c.before.before.before.before.args.map.now in rw (eq-eqb (l % 3) 0 c.before.before.if1.false, le-leb 1 (l / 3) (omega arith), lt-leb (l / 3) regions_max (omega arith))
 
 loop-holds : tie.Need-loop-init invariant-loop decreases-loop
-unfolding memoryCode regions
-loop-holds c = let l = length c.before.before.before.before.args.map.now in (search rules, refl, rw (eq-eqb (l % 3) 0 c.before.before.if1.false, le-leb 1 (l / 3) (omega arith), le-leb (l / 3) regionsMax (omega arith)))
+unfolding memory_code regions
+loop-holds c = let l = length c.before.before.before.before.args.map.now in (search rules, refl, rw (eq-eqb (l % 3) 0 c.before.before.if1.false, le-leb 1 (l / 3) (omega arith), le-leb (l / 3) regions_max (omega arith)))
 
 add-loop : tie.Need-overflow-add-loop invariant-loop decreases-loop
 add-loop c = search rules

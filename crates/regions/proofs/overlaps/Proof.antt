@@ -1,7 +1,7 @@
 use Prim.Native.Nat.{◌+◌, ◌-◌, ◌^◌}
 use borrow.Author.Tests.{ne_eqb, eq-eqb, lt-ltb, le-ltb, le-leb, lt-leb}
 use native.Mathlib.Omega.{arith}
-use Rattle.model.specs.Memory.{regionCode, overlap, contains}
+use Rattle.model.specs.Memory.{region_code, overlap, contains}
 use borrow.Author.Rules.{rules}
 use Rattle.regions.proofs.overlaps.Statement.{statement}
 use Rattle.regions.proofs.overlaps.Tie as tie

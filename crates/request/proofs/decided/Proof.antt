@@ -1,6 +1,6 @@
 use borrow.Author.Tests.{ne_eqb, eq-eqb, lt-ltb, le-ltb, le-leb, lt-leb, leb-false}
 use Rattle.model.proofs.Tests.{tests}
-use Rattle.model.specs.Request.{fits, inOk, outOk, exactly, verdict, status, reported, decided}
+use Rattle.model.specs.Request.{fits, in_ok, out_ok, exactly, verdict, status, reported, decided}
 use borrow.Author.Rules.{rules}
 use Rattle.request.proofs.decided.Statement.{statement}
 use Rattle.request.proofs.decided.Tie as tie

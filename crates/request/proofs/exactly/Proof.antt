@@ -1,5 +1,5 @@
 use Rattle.model.proofs.Tests.{tests}
-use Rattle.model.specs.Request.{fits, inOk, outOk, exactly, verdict, status, reported, decided}
+use Rattle.model.specs.Request.{fits, in_ok, out_ok, exactly, verdict, status, reported, decided}
 use Rattle.request.proofs.exactly.Statement.{statement}
 use Rattle.request.proofs.exactly.Tie as tie
 

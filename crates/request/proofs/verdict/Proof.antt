@@ -1,6 +1,6 @@
 use mathlib.Core.Path.{◌≡◌, refl, sym, ◌∙◌, ap}
 use Rattle.model.proofs.Tests.{tests}
-use Rattle.model.specs.Request.{fits, inOk, outOk, exactly, verdict, status, reported, decided}
+use Rattle.model.specs.Request.{fits, in_ok, out_ok, exactly, verdict, status, reported, decided}
 use borrow.Author.Rules.{rules}
 use Rattle.request.proofs.verdict.Statement.{statement}
 use Rattle.request.proofs.verdict.Tie as tie

@@ -1,5 +1,5 @@
 use Rattle.model.proofs.Tests.{tests}
-use Rattle.model.specs.Ring.{sizeOk, aligned, entangled, areas, pending, oneMore, polled, headed}
+use Rattle.model.specs.Ring.{queue_size_ok, aligned, entangled, areas, pending, plus_one, polled, headed}
 use Rattle.ring.proofs.aligned.Statement.{statement}
 use Rattle.ring.proofs.aligned.Tie as tie
 

@@ -1,6 +1,6 @@
 use mathlib.Core.Path.{◌≡◌, refl, sym, ◌∙◌, ap}
 use native.Mathlib.Omega.{arith}
-use Rattle.model.specs.Ring.{sizeOk, aligned, entangled, placed, areas, pending, oneMore, polled, headed}
+use Rattle.model.specs.Ring.{queue_size_ok, aligned, entangled, placed, areas, pending, plus_one, polled, headed}
 use Rattle.model.proofs.Ring.{size-range}
 use borrow.Author.Rules.{rules}
 use Rattle.ring.proofs.areas.Statement.{statement}

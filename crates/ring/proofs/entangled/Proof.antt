@@ -1,5 +1,5 @@
 use Rattle.model.proofs.Tests.{tests}
-use Rattle.model.specs.Ring.{sizeOk, aligned, entangled, areas, pending, oneMore, polled, headed}
+use Rattle.model.specs.Ring.{queue_size_ok, aligned, entangled, areas, pending, plus_one, polled, headed}
 use borrow.Author.Rules.{rules}
 use Rattle.ring.proofs.entangled.Statement.{statement}
 use Rattle.ring.proofs.entangled.Tie as tie

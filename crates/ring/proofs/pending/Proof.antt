@@ -1,4 +1,4 @@
-use Rattle.model.specs.Ring.{sizeOk, aligned, entangled, areas, pending, oneMore, polled, headed}
+use Rattle.model.specs.Ring.{queue_size_ok, aligned, entangled, areas, pending, plus_one, polled, headed}
 use borrow.Author.Rules.{rules}
 use Rattle.ring.proofs.pending.Statement.{statement}
 use Rattle.ring.proofs.pending.Tie as tie

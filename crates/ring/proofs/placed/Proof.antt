@@ -1,4 +1,4 @@
-use Rattle.model.specs.Ring.{sizeOk, aligned, entangled, placed, areas, pending, oneMore, polled, headed}
+use Rattle.model.specs.Ring.{queue_size_ok, aligned, entangled, placed, areas, pending, plus_one, polled, headed}
 use borrow.Author.Rules.{rules}
 use Rattle.ring.proofs.placed.Statement.{statement}
 use Rattle.ring.proofs.placed.Tie as tie

@@ -1,6 +1,6 @@
 use borrow.Author.Tests.{ne_eqb, eq-eqb, lt-ltb, le-ltb, le-leb, lt-leb, leb-false}
 use Rattle.model.proofs.Tests.{tests}
-use Rattle.model.specs.Ring.{sizeOk, aligned, entangled, areas, pending, oneMore, polled, headed}
+use Rattle.model.specs.Ring.{queue_size_ok, aligned, entangled, areas, pending, plus_one, polled, headed}
 use borrow.Author.Rules.{rules}
 use Rattle.ring.proofs.polled.Statement.{statement}
 use Rattle.ring.proofs.polled.Tie as tie

@@ -4,14 +4,14 @@ use lib.ListN.{length, take, drop}
 use borrow.Author.Rules.{rules}
 use native.Mathlib.Omega.{arith}
 use mathlib.Core.Path.{◌≡◌, refl, sym, ◌∙◌, ap}
-use Rattle.model.specs.Sane.{walkOk, fullOk, jobOk, sane, inside, allInside, placeOk, ready}
+use Rattle.model.specs.Sane.{walk_ok, full_ok, job_ok, sane, inside, all_inside, place_is_ok, ready}
 use Rattle.model.proofs.Sane.{full-ok, header_ok, payload-ok, answer_ok, place_ok, inside-turn, inside-end}
 use Rattle.model.specs.Step.{spans}
 use Rattle.sane.proofs.all_inside.Statement.{statement}
 use Rattle.sane.proofs.all_inside.Tie as tie
 
 abbrev invariant-loop : tie.invariant-loop
-invariant-loop m chain first end i₀ i = (allInside m (spans (end - first) first chain) ≡ allInside m (spans (end - i) i chain))
+invariant-loop m chain first end i₀ i = (all_inside m (spans (end - first) first chain) ≡ all_inside m (spans (end - i) i chain))
 
 abbrev decreases-loop : tie.decreases-loop
 decreases-loop m chain first end i₀ i = end - i

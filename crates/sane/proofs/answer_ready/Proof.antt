@@ -1,4 +1,4 @@
-use Rattle.model.specs.Sane.{walkOk, fullOk, jobOk, sane, inside, allInside, placeOk, ready}
+use Rattle.model.specs.Sane.{walk_ok, full_ok, job_ok, sane, inside, all_inside, place_is_ok, ready}
 use borrow.Author.Rules.{rules}
 use Rattle.sane.proofs.answer_ready.Statement.{statement}
 use Rattle.sane.proofs.answer_ready.Tie as tie

@@ -1,6 +1,6 @@
 use borrow.Author.Tests.{ne_eqb, eq-eqb, lt-ltb, le-ltb, le-leb, lt-leb, leb-false}
 use native.Mathlib.Omega.{arith}
-use Rattle.model.specs.Sane.{walkOk, fullOk, jobOk, sane, inside, allInside, placeOk, ready}
+use Rattle.model.specs.Sane.{walk_ok, full_ok, job_ok, sane, inside, all_inside, place_is_ok, ready}
 use Prim.Native.Nat.{◌+◌}
 use Rattle.sane.proofs.inside.Statement.{statement}
 use Rattle.sane.proofs.inside.Tie as tie

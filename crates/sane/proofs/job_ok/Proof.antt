@@ -1,5 +1,5 @@
 use Rattle.model.proofs.Tests.{tests}
-use Rattle.model.specs.Sane.{walkOk, fullOk, jobOk, sane, inside, allInside, placeOk, ready}
+use Rattle.model.specs.Sane.{walk_ok, full_ok, job_ok, sane, inside, all_inside, place_is_ok, ready}
 use borrow.Author.Rules.{rules}
 use Rattle.sane.proofs.job_ok.Statement.{statement}
 use Rattle.sane.proofs.job_ok.Tie as tie
@@ -29,27 +29,27 @@ enum-told-5 : tie.Need-enum-told-5
 enum-told-5 c = search rules
 
 returns : tie.Need-returns
-unfolding jobOk
+unfolding job_ok
 returns c = search tests
 
 returns-2 : tie.Need-returns-2
-unfolding jobOk
+unfolding job_ok
 returns-2 c = search tests
 
 returns-3 : tie.Need-returns-3
-unfolding jobOk
+unfolding job_ok
 returns-3 c = search tests
 
 returns-4 : tie.Need-returns-4
-unfolding jobOk
+unfolding job_ok
 returns-4 c = rw c.before.before.before.job.given.1 c.fits2.ensures
 
 returns-5 : tie.Need-returns-5
-unfolding jobOk
+unfolding job_ok
 returns-5 c = search tests
 
 returns-6 : tie.Need-returns-6
-unfolding jobOk
+unfolding job_ok
 returns-6 c = rw c.before.enum-told5.given.1
 
 pub job-ok-spec : {M : Type 1} → statement M

@@ -1,5 +1,5 @@
 use Rattle.model.proofs.Tests.{tests}
-use Rattle.model.specs.Sane.{walkOk, fullOk, jobOk, sane, inside, allInside, placeOk, ready}
+use Rattle.model.specs.Sane.{walk_ok, full_ok, job_ok, sane, inside, all_inside, place_is_ok, ready}
 use mathlib.Core.Path.{◌≡◌, refl, sym, ◌∙◌, ap}
 use borrow.Author.Rules.{rules}
 use Rattle.sane.proofs.place_ok.Statement.{statement}
@@ -30,11 +30,11 @@ inside-requires : tie.Need-inside-requires
 inside-requires c κs = search rules
 
 returns : tie.Need-returns
-unfolding placeOk
+unfolding place_is_ok
 returns c = search (tests, sym c.inside.ensures)
 
 returns-2 : tie.Need-returns-2
-unfolding placeOk
+unfolding place_is_ok
 returns-2 c = search tests
 
 pub place-ok-spec : {M : Type 1} → statement M

@@ -1,6 +1,6 @@
 use Rattle.model.proofs.Tests.{tests}
 use mathlib.Core.Path.{◌≡◌, refl, sym, ◌∙◌, ap}
-use Rattle.model.specs.Sane.{walkOk, fullOk, jobOk, sane, inside, allInside, placeOk, ready}
+use Rattle.model.specs.Sane.{walk_ok, full_ok, job_ok, sane, inside, all_inside, place_is_ok, ready}
 use borrow.Author.Rules.{rules}
 use Rattle.sane.proofs.publish_sane.Statement.{statement}
 use Rattle.sane.proofs.publish_sane.Tie as tie

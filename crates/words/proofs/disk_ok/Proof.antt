@@ -1,6 +1,6 @@
 use borrow.Author.Tests.{ne_eqb, eq-eqb, lt-ltb, le-ltb, le-leb, lt-leb}
 use native.Mathlib.Omega.{arith}
-use Rattle.words.specs.Layout.{jobTag, jobSector, row, row_of, job_of, phaseOf, rowAt, rowWords, saved, configAt, mapWords, memoryOk, diskOk, queueOk, lentOk, tagsOk, phaseOk, enabledOk, level, roWord}
+use Rattle.words.specs.Layout.{job_tag, job_sector, row, row_of, job_of, phase_of, row_at, row_words, saved, config_at, map_words, memory_ok, disk_ok, queue_ok, lent_ok, tags_ok, phase_ok, enabled_ok, level, ro_word}
 use lib.ListN.{get_or}
 use mathlib.Core.Path.{◌≡◌, refl, sym, ◌∙◌, ap}
 use borrow.Author.Rules.{rules}
@@ -20,22 +20,22 @@ disk-code-requires : tie.Need-disk-code-requires
 disk-code-requires c κs = search rules
 
 returns : tie.Need-returns
-unfolding diskOk
+unfolding disk_ok
 returns c = rw (← c.before.disk-code.ensures, ne_eqb _ 0 c.if1.true)
 
 shared-slice-read-if2 : tie.Need-shared-slice-read-if2
 shared-slice-read-if2 c = search rules
 
 returns-2 : tie.Need-returns-2
-unfolding diskOk
-returns-2 c = rw (← c.before.before.before.disk-code.ensures, eq-eqb _ 0 c.before.before.if1.false, lt-leb (get_or c.before.before.before.before.before.before.before.before.args.s.now roWord 0) 1 c.if2.true)
+unfolding disk_ok
+returns-2 c = rw (← c.before.before.before.disk-code.ensures, eq-eqb _ 0 c.before.before.if1.false, lt-leb (get_or c.before.before.before.before.before.before.before.before.args.s.now ro_word 0) 1 c.if2.true)
 
 shared-slice-read-result : tie.Need-shared-slice-read-result
 shared-slice-read-result c = search rules
 
 returns-3 : tie.Need-returns-3
-unfolding diskOk
-returns-3 c = rw (← c.before.before.before.before.disk-code.ensures, eq-eqb _ 0 c.before.before.before.if1.false, le-leb (get_or c.before.before.before.before.before.before.before.before.before.args.s.now roWord 0) 1 c.before.if2.false)
+unfolding disk_ok
+returns-3 c = rw (← c.before.before.before.before.disk-code.ensures, eq-eqb _ 0 c.before.before.before.if1.false, le-leb (get_or c.before.before.before.before.before.before.before.before.before.args.s.now ro_word 0) 1 c.before.if2.false)
 
 pub disk-ok-spec : {M : Type 1} → statement M
 disk-ok-spec =

@@ -1,5 +1,5 @@
 use Rattle.model.proofs.Tests.{tests}
-use Rattle.words.specs.Layout.{jobTag, jobSector, row, row_of, job_of, phaseOf, rowAt, rowWords, saved, configAt, mapWords, memoryOk, diskOk, queueOk, lentOk, tagsOk, phaseOk, enabledOk, level}
+use Rattle.words.specs.Layout.{job_tag, job_sector, row, row_of, job_of, phase_of, row_at, row_words, saved, config_at, map_words, memory_ok, disk_ok, queue_ok, lent_ok, tags_ok, phase_ok, enabled_ok, level}
 use borrow.Author.Rules.{rules}
 use Rattle.words.proofs.job_sector.Statement.{statement}
 use Rattle.words.proofs.job_sector.Tie as tie
@@ -23,27 +23,27 @@ enum-known-job-2 : tie.Need-enum-known-job-2
 enum-known-job-2 c = search rules
 
 returns : tie.Need-returns
-unfolding jobSector
+unfolding job_sector
 returns c = search tests
 
 returns-2 : tie.Need-returns-2
-unfolding jobSector
+unfolding job_sector
 returns-2 c = search tests
 
 returns-3 : tie.Need-returns-3
-unfolding jobSector
+unfolding job_sector
 returns-3 c = search tests
 
 returns-4 : tie.Need-returns-4
-unfolding jobSector
+unfolding job_sector
 returns-4 c = search tests
 
 returns-5 : tie.Need-returns-5
-unfolding jobSector
+unfolding job_sector
 returns-5 c = search tests
 
 returns-6 : tie.Need-returns-6
-unfolding jobSector
+unfolding job_sector
 returns-6 c = search tests
 
 pub job-sector-spec : {M : Type 1} → statement M

@@ -1,8 +1,8 @@
 use borrow.Author.Tests.{ne_eqb, eq-eqb, lt-ltb, le-ltb, le-leb, lt-leb}
 use native.Mathlib.Omega.{arith}
-use Rattle.model.specs.Memory.{regionsMax}
+use Rattle.model.specs.Memory.{regions_max}
 use Rattle.words.proofs.Laws.{map-long}
-use Rattle.words.specs.Layout.{jobTag, jobSector, row, row_of, job_of, phaseOf, rowAt, rowWords, saved, configAt, mapWords, memoryOk, diskOk, queueOk, lentOk, tagsOk, phaseOk, enabledOk, level, regionsWord}
+use Rattle.words.specs.Layout.{job_tag, job_sector, row, row_of, job_of, phase_of, row_at, row_words, saved, config_at, map_words, memory_ok, disk_ok, queue_ok, lent_ok, tags_ok, phase_ok, enabled_ok, level, regions_word}
 use lib.ListN.{get_or}
 use Prim.Native.Nat.{◌+◌, ◌-◌, ◌*◌, ◌^◌}
 use mathlib.Core.Path.{◌≡◌, refl, sym, ◌∙◌, ap}
@@ -15,12 +15,12 @@ shared-slice-read-n : tie.Need-shared-slice-read-n
 shared-slice-read-n c = search rules
 
 returns : tie.Need-returns
-unfolding memoryOk
-returns c = let n = get_or c.before.before.before.args.s.now regionsWord 0 in rw (lt-leb 1 n (omega arith))
+unfolding memory_ok
+returns c = let n = get_or c.before.before.before.args.s.now regions_word 0 in rw (lt-leb 1 n (omega arith))
 
 returns-2 : tie.Need-returns-2
-unfolding memoryOk
-returns-2 c = let n = get_or c.before.before.before.before.args.s.now regionsWord 0 in rw (le-leb 1 n (omega arith), lt-leb n regionsMax (omega arith))
+unfolding memory_ok
+returns-2 c = let n = get_or c.before.before.before.before.args.s.now regions_word 0 in rw (le-leb 1 n (omega arith), lt-leb n regions_max (omega arith))
 
 mul-end : tie.Need-overflow-mul-end
 mul-end c = search rules
@@ -44,8 +44,8 @@ all-sound-requires : tie.Need-all-sound-requires
 all-sound-requires c κs = search rules
 
 returns-3 : tie.Need-returns-3
-unfolding memoryOk part
-returns-3 c = let n = get_or c.before.before.before.before.before.before.before.args.s.now regionsWord 0 in let e = map-long n in rw (le-leb 1 n (omega arith), le-leb n regionsMax (omega arith)) (rw e at c.All-sound.ensures)
+unfolding memory_ok part
+returns-3 c = let n = get_or c.before.before.before.before.before.before.before.args.s.now regions_word 0 in let e = map-long n in rw (le-leb 1 n (omega arith), le-leb n regions_max (omega arith)) (rw e at c.All-sound.ensures)
 
 pub memory-ok-spec : {M : Type 1} → statement M
 memory-ok-spec =

@@ -1,4 +1,4 @@
-use Rattle.words.specs.Layout.{jobTag, jobSector, row, row_of, job_of, phaseOf, rowAt, rowWords, saved, configAt, mapWords, memoryOk, diskOk, queueOk, lentOk, tagsOk, phaseOk, enabledOk, level}
+use Rattle.words.specs.Layout.{job_tag, job_sector, row, row_of, job_of, phase_of, row_at, row_words, saved, config_at, map_words, memory_ok, disk_ok, queue_ok, lent_ok, tags_ok, phase_ok, enabled_ok, level}
 use borrow.Author.Rules.{rules}
 use Rattle.words.proofs.phase_ok.Statement.{statement}
 use Rattle.words.proofs.phase_ok.Tie as tie
@@ -28,11 +28,11 @@ sane-requires : tie.Need-sane-requires
 sane-requires c κs = search rules
 
 returns : tie.Need-returns
-unfolding phaseOk
+unfolding phase_ok
 returns c = rw (← c.before.before.before.before.before.before.tags-ok.ensures, c.before.before.before.before.before.if1.true, ← c.before.before.before.before.row_at.ensures, ← c.before.before.before.phase-of.ensures) c.sane.ensures
 
 returns-2 : tie.Need-returns-2
-unfolding phaseOk
+unfolding phase_ok
 returns-2 c = rw (← c.before.tags-ok.ensures, c.if1.false)
 
 pub phase-ok-spec : {M : Type 1} → statement M

@@ -1,5 +1,5 @@
 use Rattle.model.proofs.Tests.{tests}
-use Rattle.words.specs.Layout.{configAt}
+use Rattle.words.specs.Layout.{config_at}
 use borrow.Author.Rules.{rules}
 use Rattle.words.proofs.queue_at.Statement.{statement}
 use Rattle.words.proofs.queue_at.Tie as tie
@@ -17,7 +17,7 @@ shared-slice-read-t9 : tie.Need-shared-slice-read-t9
 shared-slice-read-t9 c = search rules
 
 returns : tie.Need-returns
-unfolding configAt
+unfolding config_at
 returns c = search tests
 
 pub queue-at-spec : {M : Type 1} → statement M

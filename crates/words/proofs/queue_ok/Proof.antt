@@ -1,6 +1,6 @@
 use mathlib.Core.Path.{◌≡◌, refl, sym, ◌∙◌, ap}
 use native.Mathlib.Omega.{arith}
-use Rattle.words.specs.Layout.{jobTag, jobSector, row, row_of, job_of, phaseOf, rowAt, rowWords, saved, configAt, mapWords, memoryOk, diskOk, queueOk, lentOk, tagsOk, phaseOk, enabledOk, level}
+use Rattle.words.specs.Layout.{job_tag, job_sector, row, row_of, job_of, phase_of, row_at, row_words, saved, config_at, map_words, memory_ok, disk_ok, queue_ok, lent_ok, tags_ok, phase_ok, enabled_ok, level}
 use Rattle.model.proofs.Ring.{size-range}
 use borrow.Author.Rules.{rules}
 use Rattle.words.proofs.queue_ok.Statement.{statement}
@@ -67,23 +67,23 @@ lent-ok-requires : tie.Need-lent-ok-requires
 lent-ok-requires c κs = omega (arith, size-range _ (sym c.before.before.before.before.before.before.before.before.before.before.before.before.before.before.before.size_ok.ensures ∙ c.before.before.before.before.before.before.before.before.before.before.before.before.before.before.if1.true))
 
 returns : tie.Need-returns
-unfolding queueOk
+unfolding queue_ok
 returns c = rw (← c.before.before.before.before.before.before.before.before.before.before.before.before.before.before.before.before.size_ok.ensures, c.before.before.before.before.before.before.before.before.before.before.before.before.before.before.before.if1.true, ← c.before.before.before.before.before.before.before.before.before.before.before.before.before.area-ok.ensures, c.before.before.before.before.before.before.before.before.before.before.before.before.if2.true, ← c.before.before.before.before.before.before.before.before.before.before.area-ok2.ensures, c.before.before.before.before.before.before.before.before.before.if3.true, ← c.before.before.before.before.before.before.before.area-ok3.ensures, c.before.before.before.before.before.before.if4.true) c.Lent-ok.ensures
 
 returns-2 : tie.Need-returns-2
-unfolding queueOk
+unfolding queue_ok
 returns-2 c = rw (← c.before.before.before.before.before.before.before.before.before.before.size_ok.ensures, c.before.before.before.before.before.before.before.before.before.if1.true, ← c.before.before.before.before.before.before.before.area-ok.ensures, c.before.before.before.before.before.before.if2.true, ← c.before.before.before.before.area-ok2.ensures, c.before.before.before.if3.true, ← c.before.area-ok3.ensures, c.if4.false)
 
 returns-3 : tie.Need-returns-3
-unfolding queueOk
+unfolding queue_ok
 returns-3 c = rw (← c.before.before.before.before.before.before.before.size_ok.ensures, c.before.before.before.before.before.before.if1.true, ← c.before.before.before.before.area-ok.ensures, c.before.before.before.if2.true, ← c.before.area-ok2.ensures, c.if3.false)
 
 returns-4 : tie.Need-returns-4
-unfolding queueOk
+unfolding queue_ok
 returns-4 c = rw (← c.before.before.before.before.size_ok.ensures, c.before.before.before.if1.true, ← c.before.area-ok.ensures, c.if2.false)
 
 returns-5 : tie.Need-returns-5
-unfolding queueOk
+unfolding queue_ok
 returns-5 c = rw (← c.before.size_ok.ensures, c.if1.false)
 
 pub queue-ok-spec : {M : Type 1} → statement M

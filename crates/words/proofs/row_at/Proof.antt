@@ -1,5 +1,5 @@
 use Rattle.model.proofs.Tests.{tests}
-use Rattle.words.specs.Layout.{jobTag, jobSector, row, row_of, job_of, phaseOf, rowAt, rowWords, saved, configAt, mapWords, memoryOk, diskOk, queueOk, lentOk, tagsOk, phaseOk, enabledOk, level}
+use Rattle.words.specs.Layout.{job_tag, job_sector, row, row_of, job_of, phase_of, row_at, row_words, saved, config_at, map_words, memory_ok, disk_ok, queue_ok, lent_ok, tags_ok, phase_ok, enabled_ok, level}
 use borrow.Author.Rules.{rules}
 use Rattle.words.proofs.row_at.Statement.{statement}
 use Rattle.words.proofs.row_at.Tie as tie
@@ -35,7 +35,7 @@ shared-slice-read-t21 : tie.Need-shared-slice-read-t21
 shared-slice-read-t21 c = search rules
 
 returns : tie.Need-returns
-unfolding rowAt
+unfolding row_at
 returns c = search tests
 
 pub row-at-spec : {M : Type 1} → statement M

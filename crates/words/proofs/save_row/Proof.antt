@@ -1,6 +1,6 @@
 use native.Mathlib.Omega.{arith}
 use lib.ListN.{length-set}
-use Rattle.words.specs.Layout.{rowWords}
+use Rattle.words.specs.Layout.{row_words}
 use Rattle.model.proofs.Lists.{put-cons, put-nil}
 use borrow.Author.Rules.{rules}
 use Rattle.words.proofs.save_row.Statement.{statement}
@@ -40,7 +40,7 @@ same_length : tie.Need-same-length
 same_length c = search rules
 
 returns : tie.Need-returns
-unfolding rowWords
+unfolding row_words
 returns c = simp (put-cons, put-nil)
 
 pub save-row-spec : {M : Type 1} → statement M

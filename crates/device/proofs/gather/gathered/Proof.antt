@@ -1,5 +1,5 @@
 use borrow.Author.Tests.{ne_eqb, eq-eqb, lt-ltb, le-ltb, le-leb, lt-leb}
-use Rattle.model.specs.Step.{codeAfter, onward, gathered, paid, ends}
+use Rattle.model.specs.Step.{code_after, onward, gathered, paid, ends}
 use borrow.Author.Rules.{rules}
 use Rattle.device.proofs.gather.gathered.Statement.{statement}
 use Rattle.device.proofs.gather.gathered.Tie as tie

@@ -1,5 +1,5 @@
 use Rattle.model.proofs.Tests.{tests}
-use Rattle.model.specs.Step.{codeAfter, onward, gathered, paid, ends}
+use Rattle.model.specs.Step.{code_after, onward, gathered, paid, ends}
 use borrow.Author.Rules.{rules}
 use Rattle.device.proofs.gather.onward.Statement.{statement}
 use Rattle.device.proofs.gather.onward.Tie as tie

@@ -1,4 +1,4 @@
-use Rattle.driver.specs.Lay.{span, queueIn, countsOk, spot_of, spotAt, is_at, place_of, in_memory, settled, areaWords, formed, measured, formOk, clearOf, separate}
+use Rattle.driver.specs.Lay.{span, queue_in, counts_ok, spot_of, spot_at, is_at, place_of, in_memory, settled, area_words, formed, measured, form_ok, clear_of, separate}
 use mathlib.Core.Path.{◌≡◌, refl, sym, ◌∙◌, ap}
 use native.Mathlib.Omega.{arith}
 use borrow.Author.Rules.{rules}
@@ -12,7 +12,7 @@ use Rattle.driver.proofs.form.clear_of.Lts as lts
 use Rattle.regions.proofs.overlaps.Reads as overlaps-reads
 
 abbrev invariant-loop : tie.invariant-loop
-invariant-loop spots first end at len i₀ i = clearOf (span at len) (spans (end - first) first spots) ≡ clearOf (span at len) (spans (end - i) i spots)
+invariant-loop spots first end at len i₀ i = clear_of (span at len) (spans (end - first) first spots) ≡ clear_of (span at len) (spans (end - i) i spots)
 
 abbrev decreases-loop : tie.decreases-loop
 decreases-loop spots first end at len i₀ i = end - i

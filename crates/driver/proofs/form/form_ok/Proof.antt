@@ -1,4 +1,4 @@
-use Rattle.driver.specs.Lay.{formOk, formed, measured}
+use Rattle.driver.specs.Lay.{form_ok, formed, measured}
 use mathlib.Core.Path.{◌≡◌, refl, sym, ◌∙◌, ap}
 use native.Mathlib.Omega.{arith}
 use Prim.Native.Nat.{◌-◌}
@@ -25,12 +25,12 @@ formed-requires c κs = search rules
 
 -- src/form.rt:51:9
 returns : tie.Need-returns
-unfolding formOk
+unfolding form_ok
 returns c = let z : c.before.before.before.before.before.args.reads - 0 ≡ c.before.before.before.before.before.args.reads = omega arith in let m = rw z at c.before.before.before.measure.ensures in rw (← m, eq-eqb _ _ c.before.before.if1.true, ← c.before.measure2.ensures) c.formed.ensures
 
 -- src/form.rt:43:1
 returns-2 : tie.Need-returns-2
-unfolding formOk
+unfolding form_ok
 returns-2 c = let z : c.before.before.before.args.reads - 0 ≡ c.before.before.before.args.reads = omega arith in let m = rw z at c.before.measure.ensures in rw (← m, ne_eqb _ _ c.if1.false)
 
 pub form-ok-spec : {M : Type 1} → statement M

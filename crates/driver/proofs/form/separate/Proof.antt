@@ -1,4 +1,4 @@
-use Rattle.driver.specs.Lay.{span, clearOf, separate}
+use Rattle.driver.specs.Lay.{span, clear_of, separate}
 use mathlib.Core.Path.{◌≡◌, refl, sym, ◌∙◌, ap}
 use native.Mathlib.Omega.{arith}
 use borrow.Author.Rules.{rules}

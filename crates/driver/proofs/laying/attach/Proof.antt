@@ -1,5 +1,5 @@
 use mathlib.Core.Path.{◌≡◌, refl, sym, ◌∙◌, ap}
-use Rattle.driver.specs.Lay.{attachedWith, attached, publishCode, published, lay, layOn}
+use Rattle.driver.specs.Lay.{attached_with, attached, publish_code, published, lay, lay_on}
 use borrow.Author.Tests.{eq-eqb, ne_eqb, lt-ltb, le-ltb, le-leb, lt-leb}
 use Rattle.model.proofs.Memory.{mapped}
 use borrow.Author.Rules.{rules}

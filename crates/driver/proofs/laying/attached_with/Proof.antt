@@ -1,5 +1,5 @@
 use mathlib.Core.Path.{◌≡◌, refl, sym, ◌∙◌, ap}
-use Rattle.driver.specs.Lay.{attachedWith, attached, publishCode, published, lay, layOn}
+use Rattle.driver.specs.Lay.{attached_with, attached, publish_code, published, lay, lay_on}
 use borrow.Author.Tests.{eq-eqb, ne_eqb, lt-ltb, le-ltb, le-leb, lt-leb}
 use borrow.Author.Rules.{rules}
 use Rattle.driver.proofs.laying.attached_with.Statement.{statement}
@@ -17,17 +17,17 @@ enum-known-found-2 c = search rules
 
 -- src/laying.rt:23:17
 returns : tie.Need-returns
-unfolding attachedWith
+unfolding attached_with
 returns c = rw (c.before.before.found2.given.1, le-leb _ _ c.if1.true)
 
 -- src/laying.rt:16:1
 returns-2 : tie.Need-returns-2
-unfolding attachedWith
+unfolding attached_with
 returns-2 c = rw c.before.found.given.1
 
 -- src/laying.rt:16:1
 returns-3 : tie.Need-returns-3
-unfolding attachedWith
+unfolding attached_with
 returns-3 c = rw (c.before.before.found2.given.1, lt-leb _ _ c.if1.false)
 
 pub attached-with-spec : {M : Type 1} → statement M

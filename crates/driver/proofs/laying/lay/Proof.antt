@@ -1,5 +1,5 @@
 use mathlib.Core.Path.{◌≡◌, refl, sym, ◌∙◌, ap}
-use Rattle.driver.specs.Lay.{attachedWith, attached, publishCode, published, lay, layOn}
+use Rattle.driver.specs.Lay.{attached_with, attached, publish_code, published, lay, lay_on}
 use borrow.Author.Tests.{eq-eqb, ne_eqb, lt-ltb, le-ltb, le-leb, lt-leb}
 use native.Mathlib.Omega.{arith}
 use Rattle.driver.proofs.Fits.{laid-fits, fit-notes, fit-writes, one-more-mod}
@@ -31,7 +31,7 @@ same-length-3 c = search rules
 
 -- src/laying.rt:83:9
 returns : tie.Need-returns
-unfolding lay layOn
+unfolding lay lay_on
 returns c = let p = c.before.before.before.before.before.plan.ensures in rw (← p.code_is, ne_eqb _ 0 c.if1.true) (record { answer-is = refl; mem_is = refl; own_is = refl; message-is = refl; spots-are = p.spots-are; nums-are = p.nums-are })
 
 -- src/laying.rt:86:5
@@ -72,7 +72,7 @@ same-length-8 c = search rules
 
 -- src/laying.rt:56:1
 returns-2 : tie.Need-returns-2
-unfolding lay layOn
+unfolding lay lay_on
 returns-2 c = let p = c.before.before.before.before.before.before.before.before.before.before.before.before.before.before.before.before.before.before.before.before.before.before.before.plan.ensures in rw (← p.code_is, ← p.spots-are, ← p.nums-are, eq-eqb _ 0 c.before.before.before.before.before.before.before.before.before.before.before.before.before.before.before.before.before.before.if1.false) (record { answer-is = rw (c.before.one_more.ensures, one-more-mod) refl; mem_is = rw (← c.before.before.before.before.before.before.before.before.before.before.before.before.before.before.note.ensures.1) c.before.before.before.before.before.write.ensures; own_is = c.before.before.before.before.before.before.before.before.before.before.before.before.before.before.note.ensures.0; message-is = c.before.before.before.before.before.before.before.before.before.before.before.before.before.before.note.ensures.1; spots-are = refl; nums-are = refl })
 
 pub lay-spec : {M : Type 1} → statement M

@@ -1,5 +1,5 @@
 use mathlib.Core.Path.{◌≡◌, refl, sym, ◌∙◌, ap}
-use Rattle.driver.specs.Lay.{attachedWith, attached, publishCode, published, lay, layOn}
+use Rattle.driver.specs.Lay.{attached_with, attached, publish_code, published, lay, lay_on}
 use native.Mathlib.Omega.{arith}
 use Rattle.driver.proofs.Laws.{queue-ok}
 use borrow.Author.Rules.{rules}
@@ -28,12 +28,12 @@ same_length c = search rules
 
 -- src/laying.rt:106:9
 returns : tie.Need-returns
-unfolding publishCode published
+unfolding publish_code published
 returns c = rw (← c.before.before.before.before.before.before.queue-in.ensures, c.before.before.before.before.before.if1.true) (refl, c.before.before.put16.ensures)
 
 -- src/laying.rt:99:1
 returns-2 : tie.Need-returns-2
-unfolding publishCode published
+unfolding publish_code published
 returns-2 c = rw (← c.before.queue-in.ensures, c.if1.false) (refl, refl)
 
 pub publish-spec : {M : Type 1} → statement M

@@ -1,7 +1,7 @@
 use mathlib.Core.Path.{◌≡◌, refl, sym, ◌∙◌, ap}
 use native.Mathlib.Omega.{arith}
 use borrow.Author.Rules.{rules}
-use Rattle.driver.specs.Lay.{plan, spotsOf}
+use Rattle.driver.specs.Lay.{plan, spots_of}
 use Rattle.driver.proofs.Laws.{ready-ok, counts-ok}
 use Rattle.driver.proofs.plan.plan.Statement.{statement}
 use Rattle.driver.proofs.plan.plan.Tie as tie
@@ -43,7 +43,7 @@ same-length-2 c = search rules
 
 -- src/plan.rt:96:17
 returns : tie.Need-returns
-unfolding plan spotsOf
+unfolding plan spots_of
 returns c = rw (← c.before.before.before.before.before.before.before.before.before.before.before.before.before.before.before.before.before.ready.ensures, c.before.before.before.before.before.before.before.before.before.before.before.before.before.before.before.before.if1.true, ← c.before.before.before.before.before.before.before.before.before.before.before.before.before.before.before.counts-ok.ensures, c.before.before.before.before.before.before.before.before.before.before.before.before.before.before.if2.true, ← c.before.before.before.before.before.before.before.before.before.before.before.before.settle.ensures.0, c.before.before.before.before.before.before.before.before.before.if3.true, ← c.before.before.before.before.before.before.before.before.before.before.before.before.settle.ensures.1, ← c.before.before.before.before.before.before.before.note-areas.ensures) c.before.before.plan-on.ensures
 
 -- src/plan.rt:98:13
@@ -52,17 +52,17 @@ same-length-3 c = search rules
 
 -- src/plan.rt:98:13
 returns-2 : tie.Need-returns-2
-unfolding plan spotsOf
+unfolding plan spots_of
 returns-2 c = rw (← c.before.before.before.before.before.before.before.before.ready.ensures, c.before.before.before.before.before.before.before.if1.true, ← c.before.before.before.before.before.before.counts-ok.ensures, c.before.before.before.before.before.if2.true, ← c.before.before.before.settle.ensures.0, c.if3.false) (record { code_is = refl; spots-are = c.before.before.before.settle.ensures.1; nums-are = refl })
 
 -- src/plan.rt:100:9
 returns-3 : tie.Need-returns-3
-unfolding plan spotsOf
+unfolding plan spots_of
 returns-3 c = rw (← c.before.before.before.ready.ensures, c.before.before.if1.true, ← c.before.counts-ok.ensures, c.if2.false) (record { code_is = refl; spots-are = refl; nums-are = refl })
 
 -- src/plan.rt:77:1
 returns-4 : tie.Need-returns-4
-unfolding plan spotsOf
+unfolding plan spots_of
 returns-4 c = rw (← c.before.ready.ensures, c.if1.false) (record { code_is = refl; spots-are = refl; nums-are = refl })
 
 pub plan-spec : {M : Type 1} → statement M

@@ -1,5 +1,5 @@
 use mathlib.Core.Path.{◌≡◌, refl, sym, ◌∙◌, ap}
-use Rattle.driver.specs.Take.{usedIdx, outstanding, freed, released, countable, judged, usedWord, taken, ownAfter, spotsIn, statusOf, data_of}
+use Rattle.driver.specs.Take.{used_idx, outstanding, freed, released, countable, judged, used_word, taken, own_after, spots_in, status_of, data_of}
 use native.Mathlib.Omega.{arith}
 use Rattle.driver.proofs.Answers.{released-turn, gather-turn, gather-end, spots-in-ok, countable-ok}
 use borrow.Author.Rules.{rules}
@@ -7,7 +7,7 @@ use Prim.Native.Nat.{◌≤◌, ◌+◌, ◌-◌, ◌*◌, ◌/◌, ◌<◌, min
 use lib.ListN.{length, take, get_or}
 use Rattle.model.specs.Bytes.{put, part}
 use Rattle.model.specs.Step.{spans}
-use Rattle.model.specs.Sane.{allInside}
+use Rattle.model.specs.Sane.{all_inside}
 use mathlib.Core.Bool.{true}
 use Rattle.requests.specs.Serve.{gather}
 use Rattle.model.proofs.Sane.{inside-here, inside-rest}
@@ -19,7 +19,7 @@ use Rattle.answer.proofs.smaller.Reads as smaller-reads
 use Rattle.moves.proofs.copy.Reads as copy-reads
 
 abbrev invariant-loop : tie.invariant-loop
-invariant-loop mem spots first end out₀ i₀ pos₀ out i pos = (pos ≤ length out₀) × (length out ≡ length out₀) × (allInside (length mem) (spans (end - i) i spots) ≡ true) × (put out₀ 0 (take (length out₀) (gather mem (spans (end - first) first spots))) ≡ put out pos (take (length out₀ - pos) (gather mem (spans (end - i) i spots))))
+invariant-loop mem spots first end out₀ i₀ pos₀ out i pos = (pos ≤ length out₀) × (length out ≡ length out₀) × (all_inside (length mem) (spans (end - i) i spots) ≡ true) × (put out₀ 0 (take (length out₀) (gather mem (spans (end - first) first spots))) ≡ put out pos (take (length out₀ - pos) (gather mem (spans (end - i) i spots))))
 
 abbrev decreases-loop : tie.decreases-loop
 decreases-loop mem spots first end out₀ i₀ pos₀ out i pos = end - i

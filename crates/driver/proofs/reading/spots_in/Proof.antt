@@ -1,5 +1,5 @@
 use mathlib.Core.Path.{◌≡◌, refl, sym, ◌∙◌, ap}
-use Rattle.driver.specs.Take.{usedIdx, outstanding, freed, released, countable, judged, usedWord, taken, ownAfter, spotsIn, statusOf, data_of}
+use Rattle.driver.specs.Take.{used_idx, outstanding, freed, released, countable, judged, used_word, taken, own_after, spots_in, status_of, data_of}
 use borrow.Author.Tests.{eq-eqb, ne_eqb, lt-ltb, le-ltb, le-leb, lt-leb}
 use Rattle.model.proofs.Tests.{tests}
 use native.Mathlib.Omega.{arith}
@@ -12,17 +12,17 @@ use Rattle.sane.proofs.all_inside.Reads as all-inside-reads
 
 -- src/reading.rt:139:9
 returns : tie.Need-returns
-unfolding spotsIn
+unfolding spots_in
 returns c = search tests
 
 -- src/reading.rt:142:9
 returns-2 : tie.Need-returns-2
-unfolding spotsIn
+unfolding spots_in
 returns-2 c = search tests
 
 -- src/reading.rt:145:9
 returns-3 : tie.Need-returns-3
-unfolding spotsIn
+unfolding spots_in
 returns-3 c = search tests
 
 -- src/reading.rt:147:8
@@ -47,12 +47,12 @@ shared-slice-read-result c = search rules
 
 -- src/reading.rt:148:9
 returns-4 : tie.Need-returns-4
-unfolding spotsIn
+unfolding spots_in
 returns-4 c = rw (le-leb _ _ c.before.before.before.before.before.if1.false, lt-ltb _ _ c.before.before.before.before.if2.false, le-leb _ _ c.before.before.before.if3.false, ← c.before.before.all-inside.ensures, c.before.if4.true)
 
 -- src/reading.rt:135:1
 returns-5 : tie.Need-returns-5
-unfolding spotsIn
+unfolding spots_in
 returns-5 c = rw (le-leb _ _ c.before.before.before.before.if1.false, lt-ltb _ _ c.before.before.before.if2.false, le-leb _ _ c.before.before.if3.false, ← c.before.all-inside.ensures, c.if4.false)
 
 pub spots-in-spec : {M : Type 1} → statement M

@@ -1,5 +1,5 @@
 use mathlib.Core.Path.{◌≡◌, refl, sym, ◌∙◌, ap}
-use Rattle.driver.specs.Take.{usedIdx, outstanding, freed, released, countable, judged, usedWord, taken, ownAfter, spotsIn, statusOf, data_of}
+use Rattle.driver.specs.Take.{used_idx, outstanding, freed, released, countable, judged, used_word, taken, own_after, spots_in, status_of, data_of}
 use native.Mathlib.Omega.{arith}
 use Rattle.driver.proofs.Answers.{released-turn, gather-turn, gather-end, spots-in-ok, countable-ok}
 use borrow.Author.Rules.{rules}
@@ -64,12 +64,12 @@ wide-requires c κs = search rules
 
 -- src/reading.rt:166:9
 returns : tie.Need-returns
-unfolding statusOf
+unfolding status_of
 returns c = rw (← c.before.before.before.before.before.spots-in.ensures, c.before.before.before.before.if1.true, c.wide.ensures)
 
 -- src/reading.rt:160:1
 returns-2 : tie.Need-returns-2
-unfolding statusOf
+unfolding status_of
 returns-2 c = rw (← c.before.spots-in.ensures, c.if1.false)
 
 pub status-spec : {M : Type 1} → statement M

@@ -1,5 +1,5 @@
 use mathlib.Core.Path.{◌≡◌, refl, sym, ◌∙◌, ap}
-use Rattle.driver.specs.Take.{judged, usedWord, taken, ownAfter}
+use Rattle.driver.specs.Take.{judged, used_word, taken, own_after}
 use native.Mathlib.Omega.{arith}
 use Rattle.driver.proofs.Answers.{judged-answer}
 use borrow.Author.Rules.{rules}
@@ -49,7 +49,7 @@ same_length c = search rules
 
 -- src/reading.rt:117:1
 returns : tie.Need-returns
-unfolding taken ownAfter
+unfolding taken own_after
 returns c = (rw (← c.before.before.before.before.before.used-word.ensures, ← c.before.before.before.before.used-word2.ensures, ← c.before.before.judge.ensures, c.enum_told.given.1), refl)
 
 -- src/reading.rt:117:1
@@ -58,7 +58,7 @@ same-length-2 c = search rules
 
 -- src/reading.rt:117:1
 returns-2 : tie.Need-returns-2
-unfolding taken ownAfter
+unfolding taken own_after
 returns-2 c = (rw (← c.before.before.before.before.before.before.used-word.ensures, ← c.before.before.before.before.before.used-word2.ensures, ← c.before.before.before.judge.ensures, c.before.t.given.1), refl)
 
 -- src/reading.rt:117:1
@@ -67,7 +67,7 @@ same-length-3 c = search rules
 
 -- src/reading.rt:117:1
 returns-3 : tie.Need-returns-3
-unfolding taken ownAfter
+unfolding taken own_after
 returns-3 c = let e = sym c.before.before.before.before.before.before.before.judge.ensures ∙ c.before.before.before.before.before.t2.given.1 in let k = judged-answer _ _ _ _ _ _ _ _ _ e in (rw (← c.before.before.before.before.before.before.before.before.before.before.used-word.ensures, ← c.before.before.before.before.before.before.before.before.before.used-word2.ensures, e), rw (← k.queue-is) c.before.before.release.ensures)
 
 pub take_spec : {M : Type 1} → statement M

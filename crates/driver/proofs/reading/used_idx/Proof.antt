@@ -1,5 +1,5 @@
 use mathlib.Core.Path.{◌≡◌, refl, sym, ◌∙◌, ap}
-use Rattle.driver.specs.Take.{usedIdx, outstanding, freed, released, countable, judged, usedWord, taken, ownAfter, spotsIn, statusOf, data_of}
+use Rattle.driver.specs.Take.{used_idx, outstanding, freed, released, countable, judged, used_word, taken, own_after, spots_in, status_of, data_of}
 use native.Mathlib.Omega.{arith}
 use Rattle.driver.proofs.Laws.{queue-ok}
 use borrow.Author.Rules.{rules}
@@ -24,12 +24,12 @@ get16-requires c κs = omega (arith, queue-ok _ _ (sym c.before.before.queue-in.
 
 -- src/reading.rt:22:9
 returns : tie.Need-returns
-unfolding usedIdx
+unfolding used_idx
 returns c = rw (← c.before.before.before.queue-in.ensures, c.before.before.if1.true) c.get16.ensures.0
 
 -- src/reading.rt:17:1
 returns-2 : tie.Need-returns-2
-unfolding usedIdx
+unfolding used_idx
 returns-2 c = rw (← c.before.queue-in.ensures, c.if1.false)
 
 pub used-idx-spec : {M : Type 1} → statement M

@@ -1,5 +1,5 @@
 use mathlib.Core.Path.{◌≡◌, refl, sym, ◌∙◌, ap}
-use Rattle.driver.specs.Take.{usedIdx, outstanding, freed, released, countable, judged, usedWord, taken, ownAfter, spotsIn, statusOf, data_of}
+use Rattle.driver.specs.Take.{used_idx, outstanding, freed, released, countable, judged, used_word, taken, own_after, spots_in, status_of, data_of}
 use native.Mathlib.Omega.{arith}
 use Rattle.driver.proofs.Laws.{queue-ok}
 use native.Mathlib.Nat.{mod-lt}
@@ -41,12 +41,12 @@ get32-requires c κs = let k = queue-ok _ _ (sym c.before.before.before.before.q
 
 -- src/reading.rt:90:9
 returns : tie.Need-returns
-unfolding usedWord
+unfolding used_word
 returns c = rw (← c.before.before.before.before.before.queue-in.ensures, c.before.before.before.before.if1.true) c.get32.ensures.0
 
 -- src/reading.rt:84:1
 returns-2 : tie.Need-returns-2
-unfolding usedWord
+unfolding used_word
 returns-2 c = rw (← c.before.queue-in.ensures, c.if1.false)
 
 pub used-word-spec : {M : Type 1} → statement M

@@ -1,5 +1,5 @@
 use Rattle.model.proofs.Tests.{tests, told}
-use Rattle.driver.specs.Lay.{span, queueIn, countsOk, spot_of, spotAt, is_at, place_of, in_memory, settled, areaWords, formed, measured, formOk, clearOf, separate}
+use Rattle.driver.specs.Lay.{span, queue_in, counts_ok, spot_of, spot_at, is_at, place_of, in_memory, settled, area_words, formed, measured, form_ok, clear_of, separate}
 use borrow.Author.Rules.{rules}
 use Rattle.driver.proofs.room.counts_ok.Statement.{statement}
 use Rattle.driver.proofs.room.counts_ok.Tie as tie
@@ -8,17 +8,17 @@ use Rattle.driver.proofs.room.counts_ok.Lts as lts
 
 -- src/room.rt:37:9
 returns : tie.Need-returns
-unfolding countsOk
+unfolding counts_ok
 returns c = search tests
 
 -- src/room.rt:40:9
 returns-2 : tie.Need-returns-2
-unfolding countsOk
+unfolding counts_ok
 returns-2 c = search tests
 
 -- src/room.rt:43:9
 returns-3 : tie.Need-returns-3
-unfolding countsOk
+unfolding counts_ok
 returns-3 c = search tests
 
 -- src/room.rt:45:16
@@ -31,12 +31,12 @@ add-if4 c = search rules
 
 -- src/room.rt:46:9
 returns-4 : tie.Need-returns-4
-unfolding countsOk
+unfolding counts_ok
 returns-4 c = search tests
 
 -- src/room.rt:31:1
 returns-5 : tie.Need-returns-5
-unfolding countsOk
+unfolding counts_ok
 returns-5 c = search tests
 
 pub counts-ok-spec : {M : Type 1} → statement M

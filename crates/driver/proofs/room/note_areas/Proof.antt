@@ -1,4 +1,4 @@
-use Rattle.driver.specs.Lay.{span, queueIn, countsOk, spot_of, spotAt, is_at, place_of, in_memory, settled, areaWords, formed, measured, formOk, clearOf, separate}
+use Rattle.driver.specs.Lay.{span, queue_in, counts_ok, spot_of, spot_at, is_at, place_of, in_memory, settled, area_words, formed, measured, form_ok, clear_of, separate}
 use mathlib.Core.Path.{◌≡◌, refl, sym, ◌∙◌, ap}
 use Rattle.model.specs.Chain.{held}
 use Rattle.driver.proofs.Laws.{areas-put}
@@ -55,7 +55,7 @@ same_length c = search rules
 
 -- src/room.rt:83:1
 returns : tie.Need-returns
-unfolding held areaWords
+unfolding held area_words
 returns c = rw (c.before.before.hold3.ensures, c.before.before.before.before.before.before.hold2.ensures, c.before.before.before.before.before.before.before.before.before.before.hold.ensures) (areas-put _ _ _ _ _ _ _ _)
 
 pub note-areas-spec : {M : Type 1} → statement M

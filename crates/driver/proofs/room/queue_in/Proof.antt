@@ -1,5 +1,5 @@
 use Rattle.model.proofs.Tests.{tests, told}
-use Rattle.driver.specs.Lay.{span, queueIn, countsOk, spot_of, spotAt, is_at, place_of, in_memory, settled, areaWords, formed, measured, formOk, clearOf, separate}
+use Rattle.driver.specs.Lay.{span, queue_in, counts_ok, spot_of, spot_at, is_at, place_of, in_memory, settled, area_words, formed, measured, form_ok, clear_of, separate}
 use mathlib.Core.Path.{◌≡◌, refl, sym, ◌∙◌, ap}
 use native.Mathlib.Omega.{arith}
 use Rattle.model.proofs.Ring.{size-range}
@@ -50,22 +50,22 @@ inside-requires-3 c κs = search rules
 
 -- src/room.rt:21:17
 returns : tie.Need-returns
-unfolding queueIn inside
+unfolding queue_in inside
 returns c = rw (← c.before.before.before.before.before.before.size_ok.ensures, c.before.before.before.before.before.if1.true, ← c.before.before.before.before.inside.ensures, c.before.before.before.if2.true, ← c.before.before.inside2.ensures, c.before.if3.true) c.inside3.ensures
 
 -- src/room.rt:23:13
 returns-2 : tie.Need-returns-2
-unfolding queueIn inside
+unfolding queue_in inside
 returns-2 c = rw (← c.before.before.before.before.before.size_ok.ensures, c.before.before.before.before.if1.true, ← c.before.before.before.inside.ensures, c.before.before.if2.true, ← c.before.inside2.ensures, c.if3.false)
 
 -- src/room.rt:25:9
 returns-3 : tie.Need-returns-3
-unfolding queueIn inside
+unfolding queue_in inside
 returns-3 c = rw (← c.before.before.before.size_ok.ensures, c.before.before.if1.true, ← c.before.inside.ensures, c.if2.false)
 
 -- src/room.rt:14:1
 returns-4 : tie.Need-returns-4
-unfolding queueIn inside
+unfolding queue_in inside
 returns-4 c = rw (← c.before.size_ok.ensures, c.if1.false)
 
 pub queue-in-spec : {M : Type 1} → statement M

@@ -1,5 +1,5 @@
 use Rattle.model.proofs.Tests.{tests, told}
-use Rattle.driver.specs.Lay.{span, queueIn, countsOk, spot_of, spotAt, is_at, place_of, in_memory, settled, areaWords, formed, measured, formOk, clearOf, separate}
+use Rattle.driver.specs.Lay.{span, queue_in, counts_ok, spot_of, spot_at, is_at, place_of, in_memory, settled, area_words, formed, measured, form_ok, clear_of, separate}
 use mathlib.Core.Path.{◌≡◌, refl, sym, ◌∙◌, ap}
 use borrow.Author.Rules.{rules}
 use Rattle.driver.proofs.room.spot_of.Statement.{statement}

@@ -1,5 +1,5 @@
 use mathlib.Core.Path.{◌≡◌, refl, sym, ◌∙◌, ap}
-use Rattle.driver.specs.Lay.{header, descriptor, flags_of, next_of, link, links, free, noted, marked, ready, queueIn}
+use Rattle.driver.specs.Lay.{header, descriptor, flags_of, next_of, link, links, free, noted, marked, ready, queue_in}
 use Rattle.driver.proofs.Laws.{header-put}
 use borrow.Author.Rules.{rules}
 use Rattle.driver.proofs.writes.put_header.Statement.{statement}

@@ -3,7 +3,7 @@ use native.Mathlib.Omega.{arith}
 use mathlib.Core.Path.{◌≡◌, refl, sym, ◌∙◌}
 use Rattle.words.proofs.Laws.{framed-queue}
 use Rattle.model.proofs.Sane.{answer_ok}
-use Rattle.words.specs.Layout.{configAt}
+use Rattle.words.specs.Layout.{config_at}
 use Rattle.device.proofs.Laws.{met-answer, answer-fit}
 use Rattle.hostiledisk.proofs.Phases.{held-answer, ready-answer, chain-long, fit-held, wild-job, insane, unready, acted}
 use borrow.Author.Rules.{rules}
@@ -77,7 +77,7 @@ same-length-2 : tie.Need-same-length-2
 same-length-2 c = search rules
 
 returns-2 : tie.Need-returns-2
-unfolding configAt
+unfolding config_at
 returns-2 c = acted _ _ _ _ _ _ (held-answer _ _ _ _ _ c.before.before.before.before.before.before.before.before.before.before.before.before.before.before.before.before.before.before.before.before.before.before.before.before.before.before.before.before.before.before.before.before.before.before.before.before.requires c.before.before.before.before.before.before.before.before.before.before.before.before.before.before.before.before.before.before.before.before.before.before.before.before.before.before.before.before.before.if1.false _ _ c.before.before.before.before.before.before.before.before.before.before.before.before.before.before.before.before.before.before.before.before.before.before.before.before.before.before.before.walk_at.ensures c.before.before.before.before.before.before.before.before.before.before.before.before.before.before.before.before.before.before.before.before.before.before.before.before.Job-of.ensures) (sym c.before.before.before.before.before.before.before.before.before.before.before.before.before.before.before.before.before.before.before.before.answer-sane.ensures ∙ c.before.before.before.before.before.before.before.before.before.before.before.before.before.before.before.before.before.before.before.if2.true) (ready-answer _ _ _ _ _ (sym c.before.before.before.before.before.before.before.before.before.before.before.before.before.before.before.before.before.answer-ready.ensures ∙ c.before.before.before.before.before.before.before.before.before.before.before.before.before.before.before.before.if3.true)) _ _ _ _ _ _ _ _ _ _ (met-answer _ _ _ _ _ _ _ _ _ _ _ _ (rw (c.before.before.before.before.before.before.before.before.before.before.before.before.before.before.queue-at.ensures, c.before.before.before.before.before.before.before.before.before.before.before.before.disk-at.ensures) at c.before.before.before.before.before.before.reply.ensures)) c.before.before.save-phase.ensures _ refl
 
 same-length-3 : tie.Need-same-length-3

@@ -8,10 +8,10 @@ use lib.ListN.{get_or, length-set}
 use Prim.Native.Nat.{◌+◌, ◌-◌, ◌*◌}
 use Rattle.model.specs.Bytes.{part}
 use Rattle.model.specs.Sane.{ready}
-use Rattle.model.specs.Step.{codeAfter}
+use Rattle.model.specs.Step.{code_after}
 use Rattle.model.proofs.Sane.{chain-ok}
 use Rattle.model.proofs.Chain.{chain-on}
-use Rattle.words.specs.Layout.{configAt, regionsWord}
+use Rattle.words.specs.Layout.{config_at, regions_word}
 use Rattle.device.proofs.Laws.{met-chain}
 use Rattle.hostiledisk.proofs.Phases.{held-chain, sane-chain, framed-few, fit-held, insane, acted}
 use borrow.Author.Rules.{rules}
@@ -58,8 +58,8 @@ slice-reshared-read-descriptor-2 : tie.Need-slice-reshared-read-descriptor-2
 slice-reshared-read-descriptor-2 c = search rules
 
 descriptor-requires : tie.Need-descriptor-requires
-unfolding part configAt ready
-descriptor-requires c κs = let n = get_or c.before.before.before.before.before.before.before.before.before.before.before.before.before.before.before.before.before.args.state.now regionsWord 0 in let e = map-long n in let t = sym c.before.before.before.before.before.before.before.chain-sane.ensures ∙ c.before.before.before.before.before.before.if1.true in let f = fit-held _ _ _ _ c.before.before.before.before.before.before.before.before.before.before.before.before.before.before.before.before.before.args.chain.now _ (held-chain _ _ _ _ _ c.before.before.before.before.before.before.before.before.before.before.before.before.before.before.before.before.before.requires _ c.before.before.before.before.before.before.before.before.before.before.walk_at.ensures) (sane-chain _ _ _ _ t) refl in let h = chain-ok _ _ _ _ t in rw (c.before.before.before.before.queue-at.ensures, e) (f.sound-map, omega (arith, h, f))
+unfolding part config_at ready
+descriptor-requires c κs = let n = get_or c.before.before.before.before.before.before.before.before.before.before.before.before.before.before.before.before.before.args.state.now regions_word 0 in let e = map-long n in let t = sym c.before.before.before.before.before.before.before.chain-sane.ensures ∙ c.before.before.before.before.before.before.if1.true in let f = fit-held _ _ _ _ c.before.before.before.before.before.before.before.before.before.before.before.before.before.before.before.before.before.args.chain.now _ (held-chain _ _ _ _ _ c.before.before.before.before.before.before.before.before.before.before.before.before.before.before.before.before.before.requires _ c.before.before.before.before.before.before.before.before.before.before.walk_at.ensures) (sane-chain _ _ _ _ t) refl in let h = chain-ok _ _ _ _ t in rw (c.before.before.before.before.queue-at.ensures, e) (f.sound-map, omega (arith, h, f))
 
 enum-known-p : tie.Need-enum-known-p
 enum-known-p c = search rules
@@ -74,8 +74,8 @@ same-length-2 : tie.Need-same-length-2
 same-length-2 c = search rules
 
 returns : tie.Need-returns
-unfolding part codeAfter ready
-returns c = let n = get_or c.before.before.before.before.before.before.before.before.before.before.before.before.before.before.before.before.before.before.before.before.before.before.before.before.before.before.before.args.state.now regionsWord 0 in let e = map-long n in let q = c.before.before.before.before.before.before.before.before.before.before.before.before.before.before.queue-at.ensures in let d = c.before.before.before.before.before.before.before.before.before.descriptor.ensures in let g = c.before.before.before.before.before.p.given.1 in let t = rw (q, e) at d.0 in acted _ _ _ _ _ _ (held-chain _ _ _ _ _ c.before.before.before.before.before.before.before.before.before.before.before.before.before.before.before.before.before.before.before.before.before.before.before.before.before.before.before.requires _ c.before.before.before.before.before.before.before.before.before.before.before.before.before.before.before.before.before.before.before.before.walk_at.ensures) (sane-chain _ _ _ _ (sym c.before.before.before.before.before.before.before.before.before.before.before.before.before.before.before.before.before.chain-sane.ensures ∙ c.before.before.before.before.before.before.before.before.before.before.before.before.before.before.before.before.if1.true)) refl _ _ _ _ _ _ _ _ _ _ (met-chain _ _ _ _ _ _ _ _ _ _ _ _ _ t (sym (chain-on _ _ _ _ _ _ _ (sym t ∙ g))) (rw (q, e) at d.1.1)) (rw g c.before.before.save-chain.ensures) _ (rw g)
+unfolding part code_after ready
+returns c = let n = get_or c.before.before.before.before.before.before.before.before.before.before.before.before.before.before.before.before.before.before.before.before.before.before.before.before.before.before.before.args.state.now regions_word 0 in let e = map-long n in let q = c.before.before.before.before.before.before.before.before.before.before.before.before.before.before.queue-at.ensures in let d = c.before.before.before.before.before.before.before.before.before.descriptor.ensures in let g = c.before.before.before.before.before.p.given.1 in let t = rw (q, e) at d.0 in acted _ _ _ _ _ _ (held-chain _ _ _ _ _ c.before.before.before.before.before.before.before.before.before.before.before.before.before.before.before.before.before.before.before.before.before.before.before.before.before.before.before.requires _ c.before.before.before.before.before.before.before.before.before.before.before.before.before.before.before.before.before.before.before.before.walk_at.ensures) (sane-chain _ _ _ _ (sym c.before.before.before.before.before.before.before.before.before.before.before.before.before.before.before.before.before.chain-sane.ensures ∙ c.before.before.before.before.before.before.before.before.before.before.before.before.before.before.before.before.if1.true)) refl _ _ _ _ _ _ _ _ _ _ (met-chain _ _ _ _ _ _ _ _ _ _ _ _ _ t (sym (chain-on _ _ _ _ _ _ _ (sym t ∙ g))) (rw (q, e) at d.1.1)) (rw g c.before.before.save-chain.ensures) _ (rw g)
 
 slice-write-state : tie.Need-slice-write-state
 slice-write-state c = search rules
@@ -91,7 +91,7 @@ same-length-4 c = search rules
 
 returns-2 : tie.Need-returns-2
 unfolding part ready
-returns-2 c = let n = get_or c.before.before.before.before.before.before.before.before.before.before.before.before.before.before.before.before.before.before.before.before.before.before.before.before.before.args.state.now regionsWord 0 in let e = map-long n in let q = c.before.before.before.before.before.before.before.before.before.before.before.before.queue-at.ensures in let d = c.before.before.before.before.before.before.before.descriptor.ensures in acted _ _ _ _ _ _ (held-chain _ _ _ _ _ c.before.before.before.before.before.before.before.before.before.before.before.before.before.before.before.before.before.before.before.before.before.before.before.before.before.requires _ c.before.before.before.before.before.before.before.before.before.before.before.before.before.before.before.before.before.before.walk_at.ensures) (sane-chain _ _ _ _ (sym c.before.before.before.before.before.before.before.before.before.before.before.before.before.before.before.chain-sane.ensures ∙ c.before.before.before.before.before.before.before.before.before.before.before.before.before.before.if1.true)) refl _ _ _ _ _ _ _ _ _ _ (met-chain _ _ _ _ _ _ _ _ _ _ _ _ _ (rw (q, e) at d.0) (rw (q, e) at d.1.0) (rw (q, e) at d.1.1)) (c.before.before.finish.ensures.1 ∙ kept-descs _ _ _ c.before.before.before.before.before.before.before.before.before.before.before.before.before.before.before.before.before.before.before.before.before.before.before.before.before.requires.words_long) _ c.before.before.finish.ensures.0
+returns-2 c = let n = get_or c.before.before.before.before.before.before.before.before.before.before.before.before.before.before.before.before.before.before.before.before.before.before.before.before.before.args.state.now regions_word 0 in let e = map-long n in let q = c.before.before.before.before.before.before.before.before.before.before.before.before.queue-at.ensures in let d = c.before.before.before.before.before.before.before.descriptor.ensures in acted _ _ _ _ _ _ (held-chain _ _ _ _ _ c.before.before.before.before.before.before.before.before.before.before.before.before.before.before.before.before.before.before.before.before.before.before.before.before.before.requires _ c.before.before.before.before.before.before.before.before.before.before.before.before.before.before.before.before.before.before.walk_at.ensures) (sane-chain _ _ _ _ (sym c.before.before.before.before.before.before.before.before.before.before.before.before.before.before.before.chain-sane.ensures ∙ c.before.before.before.before.before.before.before.before.before.before.before.before.before.before.if1.true)) refl _ _ _ _ _ _ _ _ _ _ (met-chain _ _ _ _ _ _ _ _ _ _ _ _ _ (rw (q, e) at d.0) (rw (q, e) at d.1.0) (rw (q, e) at d.1.1)) (c.before.before.finish.ensures.1 ∙ kept-descs _ _ _ c.before.before.before.before.before.before.before.before.before.before.before.before.before.before.before.before.before.before.before.before.before.before.before.before.before.requires.words_long) _ c.before.before.finish.ensures.0
 
 same-length-5 : tie.Need-same-length-5
 same-length-5 c = search rules

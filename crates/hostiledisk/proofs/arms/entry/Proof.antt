@@ -2,7 +2,7 @@
 use native.Mathlib.Omega.{arith}
 use mathlib.Core.Path.{refl}
 use Rattle.model.specs.Sane.{sane, ready}
-use Rattle.model.specs.Step.{codeAfter}
+use Rattle.model.specs.Step.{code_after}
 use Rattle.device.proofs.Laws.{met-entry}
 use Rattle.hostiledisk.proofs.Phases.{held-entry, fit-held, acted}
 use borrow.Author.Rules.{rules}
@@ -29,7 +29,7 @@ same_length : tie.Need-same-length
 same_length c = search rules
 
 returns : tie.Need-returns
-unfolding sane ready codeAfter
+unfolding sane ready code_after
 returns c = let g = c.before.before.before.before.before.p.given.1 in acted _ _ _ _ _ _ (held-entry _ _ _ _ _ c.before.before.before.before.before.before.before.before.before.before.before.before.before.before.before.before.requires) refl refl _ _ _ _ _ _ _ _ _ _ (met-entry _ _ _ _ _ _ _ _ _ (rw c.before.before.before.before.before.before.before.before.before.queue-at.ensures at c.before.before.before.before.before.before.before.entry.ensures)) (rw g c.before.before.save-chain.ensures) _ (rw g)
 
 finish-requires : tie.Need-finish-requires

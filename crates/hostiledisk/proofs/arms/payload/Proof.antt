@@ -2,7 +2,7 @@
 use native.Mathlib.Omega.{arith}
 use mathlib.Core.Path.{◌≡◌, refl, sym, ◌∙◌}
 use Rattle.words.proofs.Laws.{framed-queue}
-use Rattle.model.specs.Step.{codeAfter}
+use Rattle.model.specs.Step.{code_after}
 use Rattle.model.proofs.Sane.{payload-ok}
 use Rattle.device.proofs.Laws.{met-paid, payload-fit}
 use Rattle.hostiledisk.proofs.Phases.{held-payload, ready-payload, chain-long, fit-held, insane, unready, acted}
@@ -59,7 +59,7 @@ same-length-3 : tie.Need-same-length-3
 same-length-3 c = search rules
 
 returns : tie.Need-returns
-unfolding codeAfter
+unfolding code_after
 returns c = let g = c.before.before.before.before.before.p.given.1 in acted _ _ _ _ _ _ (held-payload _ _ _ _ _ c.before.before.before.before.before.before.before.before.before.before.before.before.before.before.before.before.before.before.before.before.before.before.before.before.before.before.before.before.before.before.before.before.before.before.requires _ _ c.before.before.before.before.before.before.before.before.before.before.before.before.before.before.before.before.before.before.before.before.before.before.before.before.before.before.before.walk_at.ensures c.before.before.before.before.before.before.before.before.before.before.before.before.before.before.before.before.before.before.before.before.before.before.before.before.before.place_at.ensures) (sym c.before.before.before.before.before.before.before.before.before.before.before.before.before.before.before.before.before.before.before.before.payload-sane.ensures ∙ c.before.before.before.before.before.before.before.before.before.before.before.before.before.before.before.before.before.before.before.if1.true) (ready-payload _ _ _ _ _ _ (sym c.before.before.before.before.before.before.before.before.before.before.before.before.before.before.before.before.before.payload-ready.ensures ∙ c.before.before.before.before.before.before.before.before.before.before.before.before.before.before.before.before.if2.true)) _ _ _ _ _ _ _ _ _ _ (met-paid _ _ _ _ _ _ _ _ _ _ _ _ _ _ _ c.before.before.before.before.before.before.before.before.before.before.before.payload.ensures.0 c.before.before.before.before.before.before.before.before.before.before.before.payload.ensures.1.0 (rw c.before.before.before.before.before.before.before.before.before.before.before.before.before.before.disk-at.ensures at c.before.before.before.before.before.before.before.before.before.before.before.payload.ensures.1.1)) (rw g c.before.before.save-payload.ensures) _ (rw g)
 
 finish-requires : tie.Need-finish-requires

@@ -2,7 +2,7 @@ use native.Mathlib.Omega.{arith}
 use mathlib.Core.Path.{◌≡◌, refl, sym, ◌∙◌, ap}
 use lib.ListN.{get_or, length-set}
 use Prim.Native.Nat.{◌+◌, ◌-◌, ◌*◌, ◌^◌}
-use Rattle.words.specs.Layout.{regionsWord}
+use Rattle.words.specs.Layout.{regions_word}
 use Rattle.words.proofs.Laws.{map-long}
 use Rattle.hostiledisk.proofs.Laws.{memory-ok}
 use Rattle.model.specs.Bytes.{part}
@@ -33,11 +33,11 @@ shared-slice-read-areas c = search rules
 
 areas-requires : tie.Need-areas-requires
 unfolding part
-areas-requires c κs = let n = get_or c.before.before.before.before.args.state.now regionsWord 0 in let e = map-long n in rw e (memory-ok _ c.before.before.before.before.requires.1).sound-map
+areas-requires c κs = let n = get_or c.before.before.before.before.args.state.now regions_word 0 in let e = map-long n in rw e (memory-ok _ c.before.before.before.before.requires.1).sound-map
 
 returns : tie.Need-returns
 unfolding part
-returns c = let n = get_or c.before.before.before.before.before.args.state.now regionsWord 0 in let e = map-long n in rw e at c.areas.ensures
+returns c = let n = get_or c.before.before.before.before.before.args.state.now regions_word 0 in let e = map-long n in rw e at c.areas.ensures
 
 pub areas-spec : {M : Type 1} → statement M
 areas-spec =

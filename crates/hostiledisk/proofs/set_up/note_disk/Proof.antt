@@ -1,7 +1,7 @@
 use lib.ListN.{get_or, length-set}
 use mathlib.Core.Path.{◌≡◌, refl, sym, ◌∙◌, ap}
 use Rattle.model.proofs.Lists.{put-cons, put-nil}
-use Rattle.hostiledisk.specs.Calls.{chainWords, hdMemory, flag, diskSet, hdDisk, queueSet, enabledWith, hdEnableAt, hdReset, seen, seenOf, shown, statusWords, hdStatus, isBroken, longEnough, stepped, steppedOn, Going, hdStep, StepIs}
+use Rattle.hostiledisk.specs.Calls.{chain_words, hd_memory, flag, disk_set, hd_disk, queue_set, enabled_with, hd_enable_at, hd_reset, seen, seen_of, shown, status_words, hd_status, is_broken, long_enough, stepped, stepped_on, Going, hd_step, StepIs}
 use native.Mathlib.Omega.{arith}
 use lib.ListN.{length-set}
 use borrow.Author.Rules.{rules}
@@ -48,7 +48,7 @@ same_length : tie.Need-same-length
 same_length c = simp length-set
 
 returns : tie.Need-returns
-unfolding diskSet
+unfolding disk_set
 returns c = rw (c.before.before.before.flag.ensures, c.before.before.get64.ensures, c.before.get642.ensures, c.get32.ensures.0) (simp (put-cons, put-nil))
 
 pub note-disk-spec : {M : Type 1} → statement M

@@ -4,7 +4,7 @@ use Rattle.model.proofs.Lists.{put-cons, put-nil}
 use native.Mathlib.Omega.{arith}
 use lib.ListN.{length-set}
 use borrow.Author.Rules.{rules}
-use Rattle.hostiledisk.specs.Calls.{memorySet}
+use Rattle.hostiledisk.specs.Calls.{memory_set}
 use Rattle.hostiledisk.proofs.set_up.note_memory.Statement.{statement}
 use Rattle.hostiledisk.proofs.set_up.note_memory.Tie as tie
 
@@ -24,7 +24,7 @@ same_length : tie.Need-same-length
 same_length c = c.before.before.keep.auto.0 ∙ simp length-set
 
 returns : tie.Need-returns
-unfolding memorySet
+unfolding memory_set
 returns c = rw c.before.before.keep.ensures (simp (put-cons, put-nil))
 
 pub note-memory-spec : {M : Type 1} → statement M

@@ -1,7 +1,7 @@
 use lib.ListN.{get_or, length-set}
 use mathlib.Core.Path.{◌≡◌, refl, sym, ◌∙◌, ap}
 use Rattle.model.proofs.Lists.{put-cons, put-nil}
-use Rattle.hostiledisk.specs.Calls.{chainWords, hdMemory, flag, diskSet, hdDisk, queueSet, enabledWith, hdEnableAt, hdReset, seen, seenOf, shown, statusWords, hdStatus, isBroken, longEnough, stepped, steppedOn, Going, hdStep, StepIs}
+use Rattle.hostiledisk.specs.Calls.{chain_words, hd_memory, flag, disk_set, hd_disk, queue_set, enabled_with, hd_enable_at, hd_reset, seen, seen_of, shown, status_words, hd_status, is_broken, long_enough, stepped, stepped_on, Going, hd_step, StepIs}
 use Rattle.words.specs.Layout.{saved}
 use native.Mathlib.Omega.{arith}
 use lib.ListN.{length-set}
@@ -37,7 +37,7 @@ same_length : tie.Need-same-length
 same_length c = c.before.before.save.auto.0 ∙ simp length-set
 
 returns : tie.Need-returns
-unfolding saved queueSet
+unfolding saved queue_set
 returns c = rw c.before.before.save.ensures (simp put-cons)
 
 pub note-queue-spec : {M : Type 1} → statement M

@@ -1,5 +1,5 @@
 use native.Mathlib.Omega.{arith}
-use Rattle.hostiledisk.specs.Calls.{chainWords, hdMemory, flag, diskSet, hdDisk, queueSet, enabledWith, hdEnableAt, hdReset, seen, seenOf, shown, statusWords, hdStatus, isBroken, longEnough, stepped, steppedOn, Going, hdStep, StepIs}
+use Rattle.hostiledisk.specs.Calls.{chain_words, hd_memory, flag, disk_set, hd_disk, queue_set, enabled_with, hd_enable_at, hd_reset, seen, seen_of, shown, status_words, hd_status, is_broken, long_enough, stepped, stepped_on, Going, hd_step, StepIs}
 use Rattle.model.proofs.Sane.{payload-ok}
 use borrow.Author.Rules.{rules}
 use Rattle.hostiledisk.proofs.status.seen_of.Statement.{statement}
@@ -57,35 +57,35 @@ seen-requires-3 : tie.Need-seen-requires-3
 seen-requires-3 c κs = search rules
 
 returns : tie.Need-returns
-unfolding seenOf
+unfolding seen_of
 returns c = rw c.before.enum_told.given.1 c.seen.ensures
 
 returns-2 : tie.Need-returns-2
-unfolding seenOf
+unfolding seen_of
 returns-2 c = rw c.before.enum-told2.given.1 c.seen2.ensures
 
 returns-3 : tie.Need-returns-3
-unfolding seenOf
+unfolding seen_of
 returns-3 c = rw c.before.before.p.given.1 c.at-hand.ensures
 
 returns-4 : tie.Need-returns-4
-unfolding seenOf
+unfolding seen_of
 returns-4 c = rw c.before.before.p2.given.1 c.at-hand2.ensures
 
 returns-5 : tie.Need-returns-5
-unfolding seenOf
+unfolding seen_of
 returns-5 c = rw c.before.before.p3.given.1 c.at-hand3.ensures
 
 returns-6 : tie.Need-returns-6
-unfolding seenOf
+unfolding seen_of
 returns-6 c = rw c.before.before.p4.given.1 c.at-hand4.ensures
 
 returns-7 : tie.Need-returns-7
-unfolding seenOf
+unfolding seen_of
 returns-7 c = rw c.before.before.p5.given.1 c.at-hand5.ensures
 
 returns-8 : tie.Need-returns-8
-unfolding seenOf
+unfolding seen_of
 returns-8 c = rw c.before.before.p6.given.1 c.seen3.ensures
 
 pub seen-of-spec : {M : Type 1} → statement M

@@ -1,5 +1,5 @@
 use borrow.Author.Tests.{ne_eqb, eq-eqb, lt-ltb, le-ltb, le-leb, lt-leb}
-use Rattle.hostiledisk.specs.Calls.{chainWords, hdMemory, flag, diskSet, hdDisk, queueSet, enabledWith, hdEnableAt, hdReset, seen, seenOf, shown, statusWords, hdStatus, isBroken, longEnough, stepped, steppedOn, Going, hdStep, StepIs}
+use Rattle.hostiledisk.specs.Calls.{chain_words, hd_memory, flag, disk_set, hd_disk, queue_set, enabled_with, hd_enable_at, hd_reset, seen, seen_of, shown, status_words, hd_status, is_broken, long_enough, stepped, stepped_on, Going, hd_step, StepIs}
 use mathlib.Core.Path.{◌≡◌, refl, sym, ◌∙◌, ap}
 use Rattle.hostiledisk.proofs.Laws.{level-two, level-three, fit_of, untouched-is}
 use borrow.Author.Rules.{rules}
@@ -40,7 +40,7 @@ same_length : tie.Need-same-length
 same_length c = search rules
 
 returns : tie.Need-returns
-unfolding statusWords
+unfolding status_words
 returns c = rw (← c.before.before.before.before.before.before.before.before.before.before.before.before.before.level.ensures, eq-eqb _ 3 c.before.before.before.before.before.before.before.before.before.before.before.before.if1.true, ← c.before.before.before.before.before.before.before.before.before.before.before.row_at.ensures, ← c.before.before.before.before.before.before.before.before.before.before.phase-of.ensures, ← c.before.before.before.before.before.before.before.seen_of.ensures) c.before.before.show-all.ensures
 
 seen-requires : tie.Need-seen-requires
@@ -53,7 +53,7 @@ same-length-2 : tie.Need-same-length-2
 same-length-2 c = search rules
 
 returns-2 : tie.Need-returns-2
-unfolding statusWords
+unfolding status_words
 returns-2 c = rw (← c.before.before.before.before.before.before.level.ensures, ne_eqb _ 3 c.before.before.before.before.before.if1.false) (rw c.before.before.before.seen.ensures at c.before.before.show-all2.ensures)
 
 pub write_spec : {M : Type 1} → statement M

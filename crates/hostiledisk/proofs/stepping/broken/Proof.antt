@@ -1,6 +1,6 @@
 use borrow.Author.Tests.{eq-eqb, ne_eqb}
 use Rattle.words.proofs.Laws.{framed-queue}
-use Rattle.hostiledisk.specs.Calls.{brokenCode}
+use Rattle.hostiledisk.specs.Calls.{broken_code}
 use borrow.Author.Rules.{rules}
 use Rattle.hostiledisk.proofs.stepping.broken.Statement.{statement}
 use Rattle.hostiledisk.proofs.stepping.broken.Tie as tie
@@ -27,15 +27,15 @@ broken-sane-requires : tie.Need-broken-sane-requires
 broken-sane-requires c κs = (framed-queue _ c.before.before.before.before.before.before.before.before.requires.1).size-high
 
 returns : tie.Need-returns
-unfolding brokenCode
+unfolding broken_code
 returns c = rw (eq-eqb _ 8 c.before.before.before.before.before.before.before.if1.true, ← c.before.broken-sane.ensures, c.if2.true)
 
 returns-2 : tie.Need-returns-2
-unfolding brokenCode
+unfolding broken_code
 returns-2 c = rw (eq-eqb _ 8 c.before.before.before.before.before.before.before.if1.true, ← c.before.broken-sane.ensures, c.if2.false)
 
 returns-3 : tie.Need-returns-3
-unfolding brokenCode
+unfolding broken_code
 returns-3 c = rw (ne_eqb _ 8 c.if1.false)
 
 pub broken-spec : {M : Type 1} → statement M

@@ -1,5 +1,5 @@
 use mathlib.Core.Path.{sym, ◌∙◌}
-use Rattle.trip.specs.Exchange.{sent, shownIn}
+use Rattle.trip.specs.Exchange.{sent, shown_in}
 use borrow.Author.Rules.{rules}
 use Rattle.trip.proofs.exchange.send.Statement.{statement}
 use Rattle.trip.proofs.exchange.send.Tie as tie
@@ -46,7 +46,7 @@ same-length-5 c = search rules
 
 -- src/exchange.rt:17:1
 returns : tie.Need-returns
-unfolding sent shownIn
+unfolding sent shown_in
 returns c = let p = c.before.before.before.before.before.before.before.before.before.before.before.before.before.lay.ensures in let g = c.before.l.given.1 in record { answer-is = sym g ∙ p.answer-is; mem_is = rw (← p.answer-is, g) p.mem_is; own_is = p.own_is; message-is = p.message-is; spots-are = p.spots-are; nums-are = p.nums-are }
 
 -- src/exchange.rt:17:1
@@ -71,7 +71,7 @@ same-length-10 c = search rules
 
 -- src/exchange.rt:17:1
 returns-2 : tie.Need-returns-2
-unfolding sent shownIn
+unfolding sent shown_in
 returns-2 c = let p = c.before.before.before.before.before.before.before.before.before.before.before.before.before.before.before.before.before.lay.ensures in let g = c.before.before.before.before.before.l2.given.1 in record { answer-is = sym g ∙ p.answer-is; mem_is = rw (← p.answer-is, g, ← p.mem_is) c.before.before.publish.ensures.1; own_is = p.own_is; message-is = p.message-is; spots-are = p.spots-are; nums-are = p.nums-are }
 
 pub send-spec : {M : Type 1} → statement M

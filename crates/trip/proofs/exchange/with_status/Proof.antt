@@ -1,4 +1,4 @@
-use Rattle.trip.specs.Exchange.{withStatus}
+use Rattle.trip.specs.Exchange.{with_status}
 use borrow.Author.Rules.{rules}
 use Rattle.trip.proofs.exchange.with_status.Statement.{statement}
 use Rattle.trip.proofs.exchange.with_status.Tie as tie
@@ -15,12 +15,12 @@ enum-known-b c = search rules
 
 -- src/exchange.rt:40:1
 returns : tie.Need-returns
-unfolding withStatus
+unfolding with_status
 returns c = rw c.enum_told.given.1
 
 -- src/exchange.rt:40:1
 returns-2 : tie.Need-returns-2
-unfolding withStatus
+unfolding with_status
 returns-2 c = rw c.before.b.given.1
 
 pub with-status-spec : {M : Type 1} → statement M
