@@ -1,4 +1,6 @@
 // S6, the answer: data into the writable buffers in chain order, then the status byte, then the used entry (01 §5).
+#![tactic(auto)]
+
 ghost use Rattle.std.specs.Prelude.{◌≡◌, true, [], ◌∷◌, ◌++◌, ◌+◌, ◌-◌, ◌*◌, ◌≤◌, ◌<◌, min, length};
 ghost use Rattle.model.specs.Bytes.{put, part, bytes};
 ghost use Rattle.model.specs.Request.{status, reported};

@@ -1,4 +1,6 @@
 // The chain (01 §3): a descriptor fetched once, its tests in their order, and the private copy of the chain.
+#![tactic(auto)]
+
 ghost use Rattle.std.specs.Prelude.{◌≡◌, true, ◌+◌, ◌*◌, ◌%◌, ◌≤◌, ◌<◌, ◌^◌, length, leb, ltb, eqb};
 ghost use Rattle.model.specs.Ring.{size_max};
 ghost use Rattle.model.specs.Pick.{both};

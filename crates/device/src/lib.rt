@@ -1,5 +1,7 @@
 // The device: one call is one step, S1 to S7. A step copies the one range that it wants out of guest memory,
 // decides from private values alone, and writes without a decision.
+#![tactic(auto)]
+
 ghost use Rattle.std.specs.Prelude.{◌≡◌, true, ◌+◌, ◌*◌, ◌%◌, ◌≤◌, ◌<◌, length};
 ghost use Rattle.model.specs.Bytes.{put, word, bytes};
 ghost use Rattle.model.specs.Memory.{regions, sound};

@@ -1,4 +1,6 @@
 // A disk (03 §1): a range of the backing slice in sectors. It knows nothing of requests.
+#![tactic(auto)]
+
 ghost use Rattle.std.specs.Prelude.{◌≡◌, ◌++◌, ◌+◌, ◌≤◌, length};
 ghost use Rattle.model.specs.Bytes.{put, part};
 ghost use Rattle.model.specs.Request.{disk_code};

@@ -5,6 +5,8 @@
 //   own    a word for each descriptor, 0 at the beginning: 0, or 1 + the head of the request that has it
 //   spots  two words for each buffer of a request and six more: where they lie in the slice. Read again with the answer.
 //   nums   a word for each buffer of a request: scratch
+#![tactic(auto)]
+
 use model::Queue;
 
 mod form;

@@ -1,5 +1,7 @@
 // The C interface. No function has a `requires`: whatever the numbers, lengths and contents are, the call returns,
 // stays inside the slices and answers a code. A word is a `usize`, which is 64 bits: uint64_t in C.
+#![tactic(auto)]
+
 ghost use Rattle.std.specs.Prelude.{◌≡◌, true, ◌≤◌, length};
 ghost use Rattle.hostiledisk.specs.Calls.{chain_words, hd_memory, hd_disk, hd_enable_at, hd_reset, hd_status, hd_step, StepIs};
 ghost use Rattle.words.specs.Layout.{state_words};

@@ -1,15 +1,14 @@
 -- The laws of `put` and `part`. Each goes by the clauses of `put`, and needs no bound unless it says so.
 use Prim.Native.Nat.{ℕ, zero, suc, ◌+◌, ◌-◌, ◌≤◌, ◌<◌, min}
 use native.Mathlib.Omega.{arith}
-use native.Mathlib.Nat.{add-zero, zero-add, add-suc, suc-add, add_assoc}
-use native.Mathlib.Numerals.{add-one}
+use native.Mathlib.Nat.{zero-add, suc-add, add_assoc}
 use mathlib.Core.Path.{◌≡◌, refl, sym, ap, ◌∙◌}
-use mathlib.Core.List.{List, [], ◌∷◌, ◌++◌, append_assoc}
+use mathlib.Core.List.{List, [], ◌∷◌, ◌++◌}
 use mathlib.Core.Bool.{Bool, true, false}
 use lib.Dec.{leb}
 use borrow.Author.Tests.{leb-true, leb-false}
-use lib.ListN.{length, get_or, take, drop, set, length-append, length-take, length-drop, length-set, drop_of_length-le}
-use lib.Seq.{get_or-take, get_or-drop, take-suc, drop-drop, take-take, take-add, ext_get_or, take_all, drop-nil, take-nil}
+use lib.ListN.{length, get_or, take, drop, set, length-take, length-drop, drop_of_length-le}
+use lib.Seq.{get_or-take, get_or-drop, take-suc, drop-drop, take-add, ext_get_or, take_all, drop-nil, take-nil}
 use Rattle.model.specs.Bytes.{put, part}
 
 -- place i lies outside the n places from a on
@@ -158,6 +157,7 @@ part-more f i s h =
 -- a part by its first element
 pub part-first : (k n : ℕ) (m : List ℕ) → k < length m → get_or m k 0 ∷ part (suc k) n m ≡ part k (suc n) m
 unfolding part
+part-first k n [] h = absurd (omega arith)
 part-first zero n (x ∷ m) h = refl
 part-first (suc k) n (x ∷ m) h = part-first k n m (omega arith)
 

@@ -2,19 +2,17 @@
 use Prim.Native.Nat.{ℕ, zero, suc, ◌+◌, ◌-◌, ◌*◌, ◌^◌, ◌/◌, ◌%◌, ◌≤◌, ◌<◌}
 use native.Mathlib.Omega.{arith}
 use native.Mathlib.Numerals.{add-one, add-two, add-three, towards_suc}
-use native.Mathlib.Nat.{zero-add, suc-add, add-zero}
 use mathlib.Core.Bool.{Bool, true, false}
 use mathlib.Core.Path.{◌≡◌, refl, sym, ap, ◌∙◌}
 use mathlib.Core.List.{List, [], ◌∷◌, ◌++◌}
 use lib.ListN.{length, get_or, take, drop, length-drop}
 use lib.Dec.{leb, ltb, eqb}
 use lib.Seq.{drop-cons}
-use borrow.Author.Tests.{leb-true, ltb-true, ltb-false, eqb-true, eqb-false, eq-eqb, ne_eqb, le-leb, lt-leb}
+use borrow.Author.Tests.{leb-true, ltb-false, eqb-true, eqb-false, le-leb, lt-leb}
 use Rattle.model.specs.Pick.{pick, both}
 use Rattle.model.specs.Memory.{Region, region, regions, region_code, overlap, clash, regions_code, memory_code, sound, contains, locate, regions_max}
-use Rattle.model.specs.declared.Found.{Found}
 use Rattle.model.specs.declared.Found.TheVariants.{At, Nothing}
-use Rattle.model.proofs.Tests.{told, on, passed, both_l, both_r, both-split}
+use Rattle.model.proofs.Tests.{told, passed, both_l, both_r, both-split}
 use Rattle.model.proofs.Lists.{Disjoint, first, after}
 
 -- the region whose words begin at place i
@@ -107,6 +105,7 @@ locate-in (r ∷ rest) a n x e = split (contains r.guest r.len a n) refl e (λ k
 -- .. and inside the slice
 pub in-slice : (m : ℕ) (rs : List Region) (a n x : ℕ) → sound m rs ≡ true → InOne rs a n x → x + n ≤ m
 unfolding sound
+in-slice m [] a n x s w = elim w [ ]
 in-slice m (r ∷ rest) a n x s (here w) = let k = region-sound m r (sound-head (region_code m r) (sound m rest) s).0 in omega arith
 in-slice m (r ∷ rest) a n x s (later w) = in-slice m rest a n x (sound-head (region_code m r) (sound m rest) s).1 w
 
@@ -121,6 +120,7 @@ within-contains r a n x w = rw (le-leb 1 n w.some, le-leb r.guest a w.from, le-l
 -- .. so a range that is nowhere lies inside no region
 pub locate-out : (rs : List Region) (a n x : ℕ) → locate rs a n ≡ Nothing → InOne rs a n x → ⊥
 unfolding locate
+locate-out [] a n x e w = elim w [ ]
 locate-out (r ∷ rest) a n x e (here w) =
     let k : At (r.place + (a - r.guest)) ≡ Nothing = rw (within-contains r a n x w) at e in
     let z : ◌≡◌ {A = ℕ} 0 1 = cc in absurd (omega arith)

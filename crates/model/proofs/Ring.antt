@@ -12,7 +12,6 @@ use Rattle.model.specs.Ring.{sizes, size_max, among, queue_size_ok, desc_bytes, 
 use Rattle.model.specs.declared.Found.{Found}
 use Rattle.model.specs.declared.Found.TheVariants.{At, Nothing}
 use Rattle.model.specs.declared.Queue.{Queue}
-use Rattle.model.specs.declared.Areas.{Areas}
 use Rattle.model.specs.declared.Areas.TheVariants.{Refused, Placed}
 use Rattle.model.proofs.Tests.{told, both-split}
 

@@ -1,22 +1,22 @@
 -- What the tests of a state tell, by name.
-use Prim.Native.Nat.{ℕ, zero, suc, ◌+◌, ◌-◌, ◌*◌, ◌/◌, ◌%◌, ◌≤◌, ◌<◌}
+use Prim.Native.Nat.{ℕ, zero, suc, ◌+◌, ◌-◌, ◌*◌, ◌%◌, ◌≤◌, ◌<◌}
 use native.Mathlib.Nat.{add-zero}
-use mathlib.Core.Bool.{Bool, true, false}
-use mathlib.Core.List.{List, [], ◌∷◌}
-use mathlib.Core.Path.{◌≡◌, refl, sym, ◌∙◌}
+use mathlib.Core.Bool.{true, false}
+use mathlib.Core.List.{List}
+use mathlib.Core.Path.{◌≡◌, sym, ◌∙◌}
 use borrow.Author.Tests.{leb-true}
 use native.Mathlib.Omega.{arith}
 use lib.Dec.{leb, ltb, eqb}
 use lib.ListN.{get_or}
-use Rattle.model.specs.Pick.{pick, both}
+use Rattle.model.specs.Pick.{pick}
 use Rattle.model.specs.Request.{fits}
-use Rattle.model.specs.Step.{Span, left, spans, writables}
-use Rattle.model.specs.Sane.{walk_ok, full_ok, job_ok, sane, inside, all_inside, place_is_ok, ready}
+use Rattle.model.specs.Step.{spans}
+use Rattle.model.specs.Sane.{walk_ok, full_ok, job_ok, sane, inside, all_inside, place_is_ok}
 use Rattle.model.specs.declared.Walk.{Walk}
 use Rattle.model.specs.declared.Place.{Place}
 use Rattle.model.specs.declared.Job.{Job}
 use Rattle.model.specs.declared.Job.TheVariants.{Read}
-use Rattle.model.specs.declared.Phase.TheVariants.{Chain, Header, Payload, Answer, Publish}
+use Rattle.model.specs.declared.Phase.TheVariants.{Chain, Header, Payload, Answer}
 use Rattle.model.proofs.Tests.{told, both-split, picked}
 use Rattle.model.proofs.Step.{spans-turn, spans-end}
 

@@ -3,10 +3,10 @@ use Prim.Native.Nat.{ℕ, zero, suc, ◌+◌, ◌*◌, ◌/◌, ◌%◌, ◌^◌
 use native.Mathlib.Omega.{arith}
 use native.Mathlib.Nat.{pow-succ', add-suc, suc-add, zero-add, add-zero, mul_assoc}
 use mathlib.Core.Path.{◌≡◌, refl, sym, ap, ◌∙◌}
-use mathlib.Core.List.{List, [], ◌∷◌, ◌++◌}
+use mathlib.Core.List.{List, ◌∷◌}
 use lib.ListN.{length, get_or}
 use Rattle.model.specs.Bytes.{put, part, word, bytes}
-use Rattle.model.proofs.Lists.{Apart, Disjoint, first, after, length-put, put-below, put-above, put_in, get_d_part, part-zero, part-first}
+use Rattle.model.proofs.Lists.{Disjoint, first, after, put-below, put-above, put_in, get_d_part, part-zero, part-first}
 
 pub length-bytes : (n v : ℕ) → length (bytes n v) ≡ n
 unfolding bytes

@@ -1,5 +1,5 @@
 -- The chain (01 §3): a descriptor's tests in their order, what is held of a chain, and S3.
-use Rattle.std.specs.Prelude.{ℕ, ◌+◌, ◌*◌, ◌/◌, ◌%◌, Bool, true, false, List, [], ◌∷◌, leb, ltb, eqb, get_or}
+use Rattle.std.specs.Prelude.{ℕ, ◌+◌, ◌*◌, ◌%◌, Bool, true, false, List, [], ◌∷◌, leb, ltb, eqb}
 use Rattle.model.specs.Pick.{pick, both}
 use Rattle.model.specs.Bytes.{word, put}
 use Rattle.model.specs.Memory.{Region, locate}
@@ -9,7 +9,6 @@ use Rattle.model.specs.declared.Desc.{Desc}
 use Rattle.model.specs.declared.Tested.{Tested}
 use Rattle.model.specs.declared.Tested.TheVariants.{Bad, Next, Last}
 use Rattle.model.specs.declared.Walk.{Walk}
-use Rattle.model.specs.declared.Job.{Job}
 use Rattle.model.specs.declared.Job.TheVariants.{Failed}
 use Rattle.model.specs.declared.Phase.{Phase}
 use Rattle.model.specs.declared.Phase.TheVariants.{Chain, Header, Answer, Broken}

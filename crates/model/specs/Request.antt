@@ -1,5 +1,5 @@
 -- The request (03): what set-up refuses of a disk, the table of 03 §3, status and length.
-use Rattle.std.specs.Prelude.{ℕ, ◌+◌, ◌-◌, ◌*◌, ◌/◌, ◌%◌, ◌^◌, Bool, true, false, leb, ltb, eqb}
+use Rattle.std.specs.Prelude.{ℕ, ◌+◌, ◌-◌, ◌*◌, ◌/◌, ◌%◌, ◌^◌, Bool, leb, ltb, eqb}
 use Rattle.model.specs.Pick.{pick, both}
 use Rattle.model.specs.declared.Disk.{Disk}
 use Rattle.model.specs.declared.Walk.{Walk}

@@ -5,7 +5,6 @@ use Rattle.model.specs.Pick.{pick, both}
 use Rattle.model.specs.Ring.{elsewhere}
 use Rattle.model.specs.Request.{fits}
 use Rattle.model.specs.Step.{Span, left, writables}
-use Rattle.model.specs.declared.Disk.{Disk}
 use Rattle.model.specs.declared.Walk.{Walk}
 use Rattle.model.specs.declared.Place.{Place}
 use Rattle.model.specs.declared.Job.{Job}

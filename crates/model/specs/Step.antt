@@ -1,11 +1,11 @@
 -- The step (01 §3 to §5): what one call fetches, becomes, keeps, writes and answers. The step schedule S1 to S7 cites the same rows.
-use Rattle.std.specs.Prelude.{ℕ, zero, suc, ◌+◌, ◌-◌, ◌*◌, ◌^◌, ◌%◌, min, Bool, true, false, List, [], ◌∷◌, ◌++◌, leb, ltb, eqb, get_or, length, take, drop}
-use Rattle.model.specs.Pick.{pick, both}
+use Rattle.std.specs.Prelude.{ℕ, zero, suc, ◌+◌, ◌-◌, ◌*◌, ◌%◌, min, Bool, List, [], ◌∷◌, ◌++◌, ltb, eqb, get_or, take, drop}
+use Rattle.model.specs.Pick.{pick}
 use Rattle.model.specs.Bytes.{put, part, word, bytes}
 use Rattle.model.specs.Memory.{Region}
 use Rattle.model.specs.Ring.{polled, headed, plus_one}
 use Rattle.model.specs.Chain.{desc_at, tested, described, descs_after, keeps}
-use Rattle.model.specs.Request.{fits, verdict, status, reported, decided}
+use Rattle.model.specs.Request.{verdict, status, reported, decided}
 use Rattle.model.specs.declared.Queue.{Queue}
 use Rattle.model.specs.declared.Disk.{Disk}
 use Rattle.model.specs.declared.Walk.{Walk}

@@ -1,4 +1,5 @@
 // The types that the definitions and the code share. They hold what documents 01 and 03 name, and nothing else.
+#![tactic(auto)]
 
 // 01 §1: a range of guest bytes is in memory, at this offset of the slice, or it is not.
 #[derive(Drop)]

@@ -1,4 +1,6 @@
 // The one routine that copies bytes: n bytes from a part of one slice to a part of another, eight at a time with a tail.
+#![tactic(auto)]
+
 ghost use Rattle.std.specs.Prelude.{◌≡◌, ◌+◌, ◌*◌, ◌≤◌, length};
 ghost use Rattle.model.specs.Bytes.{put, part};
 

@@ -1,5 +1,7 @@
 // The memory map (01 §1): set-up's refusals 20 to 24, and where a range of guest bytes lies in the slice.
 // Up to 32 regions (DEV-13), three words each in lent memory: guest address, length, offset in the slice.
+#![tactic(auto)]
+
 ghost use Rattle.std.specs.Prelude.{◌≡◌, ◌+◌, ◌≤◌, eqb, length, true};
 ghost use Rattle.model.specs.Bytes.{put};
 ghost use Rattle.model.specs.Memory.{region, regions, region_code, overlap, clash, memory_code, sound, contains, locate};

@@ -1,4 +1,6 @@
 // The request (03 §2 to §4): the table from r, w, the header and the disk's description to a verdict; status and length.
+#![tactic(auto)]
+
 ghost use Rattle.std.specs.Prelude.{◌≡◌, ◌≤◌};
 ghost use Rattle.model.specs.Request.{fits, in_ok, out_ok, exactly, verdict, status, reported, decided};
 

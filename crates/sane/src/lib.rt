@@ -1,4 +1,6 @@
 // What a call tests of words that anybody may have spoilt, before it acts on them.
+#![tactic(auto)]
+
 ghost use Rattle.std.specs.Prelude.{◌≡◌, true, ◌+◌, ◌-◌, ◌*◌, ◌≤◌, ◌<◌, length};
 ghost use Rattle.model.specs.Ring.{size_max};
 ghost use Rattle.model.specs.Sane.{walk_ok, full_ok, job_ok, refused_at, sane, inside, all_inside, place_is_ok, ready};

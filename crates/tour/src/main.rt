@@ -1,5 +1,7 @@
 // A round trip through the compiled code: a disk and a queue are set up, both counters at 65,535, and a driver writes a sector in cut buffers and
 // reads it back. Prints what set-up answered, the two status values, and how many of the bytes came back.
+#![tactic(auto)]
+
 use driver::{Attached, Driver};
 use trip::Trip;
 

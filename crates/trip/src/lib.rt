@@ -1,4 +1,6 @@
 // A driver and a device on one guest memory: requests are laid, served by calls of hd_step and read again.
+#![tactic(auto)]
+
 use driver::Driver;
 
 pub mod exchange;

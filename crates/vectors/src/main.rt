@@ -2,6 +2,8 @@
 // `stdout` says what the document says; `crates/model/proofs/Edges.antt` has the same edges as theorems.
 // Then the worked examples of 01 §6 and 03 §6 through the C interface, byte for byte, each line named after its row; then those that an honest
 // driver lays, by the driver.
+#![tactic(auto)]
+
 use crate::guest::Bytes;
 use crate::host::Stage;
 

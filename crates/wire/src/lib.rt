@@ -1,5 +1,7 @@
 // Numbers in bytes, lowest byte first (01, head): get and put at 16, 32 and 64 bits.
 // Each is written so that the compiler makes one load or one store of it.
+#![tactic(auto)]
+
 ghost use Rattle.std.specs.Prelude.{◌≡◌, ◌+◌, ◌<◌, ◌≤◌, length};
 ghost use Rattle.model.specs.Bytes.{put, word, bytes};
 

@@ -1,5 +1,7 @@
 // The state as words that the host lends. Whatever the words are, each is tested before it is used:
 // words that set-up and steps don't make count as a state with nothing set up.
+#![tactic(auto)]
+
 ghost use Rattle.std.specs.Prelude.{◌≡◌, ◌+◌, ◌*◌, ◌≤◌, leb, length, get_or};
 ghost use Rattle.model.specs.Bytes.{put};
 ghost use Rattle.model.specs.Ring.{size_max};
