@@ -14,7 +14,7 @@ use model::{Disk, Linked, Phase, Queue, Walk};
 pub mod gather;
 
 // What set-up has fixed, but for the memory map: the queue, the disk, the identity as three numbers, and the slice's length.
-#[derive(Drop)]
+#[derive(Clone, Copy)]
 pub struct Config {
     pub queue: Queue,
     pub disk: Disk,

@@ -17,7 +17,7 @@ mod room;
 mod writes;
 
 // A queue's areas, the next available idx, and the used idx up to which answers have been read.
-#[derive(Drop)]
+#[derive(Clone, Copy)]
 pub struct Driver {
     pub queue: Queue,
     pub next: usize,
@@ -25,14 +25,14 @@ pub struct Driver {
 }
 
 // Set-up was refused, or the driver.
-#[derive(Drop)]
+#[derive(Clone, Copy)]
 pub enum Attached {
     Refused(usize),
     Ready(Driver),
 }
 
 // What is asked: type and sector of the header, and how many of the buffers, the first ones, are readable.
-#[derive(Drop)]
+#[derive(Clone, Copy)]
 pub struct Ask {
     pub kind: usize,
     pub sector: usize,
@@ -40,14 +40,14 @@ pub struct Ask {
 }
 
 // A request was refused, or laid: the driver afterwards, and the head.
-#[derive(Drop)]
+#[derive(Clone, Copy)]
 pub enum Laid {
     Refused(usize),
     Head(Driver, usize),
 }
 
 // No answer is waiting; one that is none; or an answer: the driver afterwards, head and length.
-#[derive(Drop)]
+#[derive(Clone, Copy)]
 pub enum Taken {
     None,
     Strange(usize),
@@ -55,7 +55,7 @@ pub enum Taken {
 }
 
 // A status byte, or none.
-#[derive(Drop)]
+#[derive(Clone, Copy)]
 pub enum Byte {
     Unread,
     Is(usize),

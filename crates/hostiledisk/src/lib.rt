@@ -15,7 +15,7 @@ pub mod stepping;
 
 // What hd_status shows of a phase: the reason, the step that comes next, head, descriptors and bytes fetched,
 // and the descriptor at which the chain was refused.
-#[derive(Drop)]
+#[derive(Clone, Copy)]
 pub struct Seen {
     pub reason: usize,
     pub step: usize,

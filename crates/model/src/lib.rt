@@ -2,14 +2,14 @@
 #![tactic(auto)]
 
 // 01 §1: a range of guest bytes is in memory, at this offset of the slice, or it is not.
-#[derive(Drop)]
+#[derive(Clone, Copy)]
 pub enum Found {
     At(usize),
     Nothing,
 }
 
 // 01 §2: a queue's size, and the slice offsets of its descriptors, available ring and used ring.
-#[derive(Drop)]
+#[derive(Clone, Copy)]
 pub struct Queue {
     pub size: usize,
     pub desc: usize,
@@ -18,14 +18,14 @@ pub struct Queue {
 }
 
 // What enabling a queue finds: a refusal (25 to 28), or where the areas lie.
-#[derive(Drop)]
+#[derive(Clone, Copy)]
 pub enum Areas {
     Refused(usize),
     Placed(Queue),
 }
 
 // 01 §2: a descriptor, as fetched.
-#[derive(Drop)]
+#[derive(Clone, Copy)]
 pub struct Desc {
     pub addr: usize,
     pub len: usize,
@@ -34,7 +34,7 @@ pub struct Desc {
 }
 
 // 01 §3: what a descriptor's tests say. Broken with this reason; or its buffer lies at this offset, and it has NEXT or is the last.
-#[derive(Drop)]
+#[derive(Clone, Copy)]
 pub enum Tested {
     Bad(usize),
     Next(usize),
@@ -43,7 +43,7 @@ pub enum Tested {
 
 // The request at hand: its head, the descriptors held of it, how many of them are readable (the first ones),
 // and the numbers r and w of readable and writable bytes (03 §2).
-#[derive(Drop)]
+#[derive(Clone, Copy)]
 pub struct Walk {
     pub head: usize,
     pub count: usize,
@@ -53,14 +53,14 @@ pub struct Walk {
 }
 
 // The next readable byte to fetch: in this buffer of the chain, after this many bytes of it.
-#[derive(Drop)]
+#[derive(Clone, Copy)]
 pub struct Place {
     pub buf: usize,
     pub skip: usize,
 }
 
 // 03 §1: a disk's first byte in the backing slice, its sectors, and 1 if it is read-only.
-#[derive(Drop)]
+#[derive(Clone, Copy)]
 pub struct Disk {
     pub start: usize,
     pub sectors: usize,
@@ -68,7 +68,7 @@ pub struct Disk {
 }
 
 // 03 §3: what becomes of a request. Failed is status 1, Unsupported status 2; the others have status 0.
-#[derive(Drop)]
+#[derive(Clone, Copy)]
 pub enum Job {
     Failed,
     Unsupported,
@@ -80,7 +80,7 @@ pub enum Job {
 
 // The step that comes next (S1 to S7), and what it needs to know. Broken: the reason, the head, the descriptors fetched,
 // and the number of the one at which the chain was refused, 65,536 where none was (DEV-12).
-#[derive(Drop)]
+#[derive(Clone, Copy)]
 pub enum Phase {
     Poll,
     Entry,
@@ -93,7 +93,7 @@ pub enum Phase {
 }
 
 // What S3 answers: the step that comes next, and how many descriptors the last complete chain has (DEV-12).
-#[derive(Drop)]
+#[derive(Clone, Copy)]
 pub struct Linked {
     pub phase: Phase,
     pub descs: usize,

@@ -9,7 +9,7 @@ pub mod serve;
 
 // Laying refused the request; its answer did not come, or is not one (0 none yet · 60, 66, 67 as in reading answers · 68 another request's · 69 without
 // a status); or the driver afterwards, status and length.
-#[derive(Drop)]
+#[derive(Clone, Copy)]
 pub enum Exchanged {
     Refused(usize),
     Stuck(usize),
@@ -17,7 +17,7 @@ pub enum Exchanged {
 }
 
 // A request was not answered, with the code of `Exchanged`; or the status of the write and of the read.
-#[derive(Drop)]
+#[derive(Clone, Copy)]
 pub enum Trip {
     Failed(usize),
     Both(usize, usize),

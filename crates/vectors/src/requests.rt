@@ -25,7 +25,7 @@ const ROWS: [usize; 96] = [
     8, 0, 15, 1, 0, 0,
 ];
 
-#[derive(Drop)]
+#[derive(Clone, Copy)]
 struct Request {
     kind: usize,
     sector: usize,

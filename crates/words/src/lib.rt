@@ -12,7 +12,7 @@ use model::{Disk, Job, Phase, Place, Queue, Walk};
 pub mod at;
 
 // The phase as numbers.
-#[derive(Drop)]
+#[derive(Clone, Copy)]
 pub struct Row {
     pub tag: usize,
     pub head: usize,

@@ -20,10 +20,10 @@ shared-slice-read-wide-2 c = search rules
 wide-requires-2 : tie.Need-wide-requires-2
 wide-requires-2 c κs = search rules
 
-mul-result : tie.Need-overflow-mul-result
+mul-result : tie.Need-overflow_mul-result
 mul-result c = search rules
 
-add-result : tie.Need-overflow-add-result
+add-result : tie.Need-overflow_add-result
 add-result c = search rules
 
 returns : tie.Need-returns

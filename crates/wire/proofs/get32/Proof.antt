@@ -14,10 +14,10 @@ add-get16 c = search rules
 get16-requires-2 : tie.Need-get16-requires-2
 get16-requires-2 c κs = search rules
 
-mul-result : tie.Need-overflow-mul-result
+mul-result : tie.Need-overflow_mul-result
 mul-result c = search rules
 
-add-result : tie.Need-overflow-add-result
+add-result : tie.Need-overflow_add-result
 add-result c = search rules
 
 returns : tie.Need-returns

@@ -7,16 +7,16 @@ use borrow.Author.Rules.{rules}
 use Rattle.wire.proofs.put16.Statement.{statement}
 use Rattle.wire.proofs.put16.Tie as tie
 
-cast-m : tie.Need-overflow-cast-m
+cast-m : tie.Need-overflow_cast-m
 cast-m c = search rules
 
 slice-write-m : tie.Need-slice-write-m
 slice-write-m c = search rules
 
-cast-m-2 : tie.Need-overflow-cast-m-2
+cast-m-2 : tie.Need-overflow_cast-m-2
 cast-m-2 c = search rules
 
-add-m : tie.Need-overflow-add-m
+add-m : tie.Need-overflow_add-m
 add-m c = search rules
 
 slice-write-m-2 : tie.Need-slice-write-m-2

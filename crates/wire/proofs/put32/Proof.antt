@@ -19,7 +19,7 @@ same_length c = search rules
 
 returns : tie.Need-returns
 unfolding bytes
-returns c = rw (c.before.before.put162.ensures, c.before.before.before.before.before.before.put16.ensures) (put-put _ _ _ _)
+returns c = rw (c.before.before.put16-2.ensures, c.before.before.before.before.before.before.put16.ensures) (put-put _ _ _ _)
 
 pub put32-spec : {M : Type 1} → statement M
 put32-spec = tie.close (tie.spec put16-requires add-put16 put16-requires-2 same_length returns)

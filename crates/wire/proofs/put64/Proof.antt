@@ -18,7 +18,7 @@ same_length c = search rules
 
 returns : tie.Need-returns
 unfolding bytes
-returns c = rw (c.before.before.put322.ensures, c.before.before.before.before.before.before.put32.ensures) (put-put _ _ _ _)
+returns c = rw (c.before.before.put32-2.ensures, c.before.before.before.before.before.before.put32.ensures) (put-put _ _ _ _)
 
 pub put64-spec : {M : Type 1} → statement M
 put64-spec = tie.close (tie.spec put32-requires add-put32 put32-requires-2 same_length returns)
