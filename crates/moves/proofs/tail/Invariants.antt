@@ -1,0 +1,16 @@
+use native.Mathlib.Omega.{arith}
+use borrow.Author.Rules.{rules}
+use Prim.Native.Nat.{◌≤◌, ◌+◌, ◌-◌}
+use mathlib.Core.Path.{◌≡◌, refl}
+use lib.ListN.{length, length-set}
+use native.Mathlib.Numerals.{add-one}
+use Rattle.model.specs.Bytes.{put, part}
+use Rattle.model.proofs.Lists.{put-nil, put_copy, part-zero}
+use Rattle.moves.proofs.tail.Given as goal
+
+-- After i turns the first i bytes of the source's part stand in the destination's.
+abbrev pub invariant-loop-i : goal.invariant-loop-i
+invariant-loop-i l = (l.i ≤ l.n) × (length l.dst ≡ length l.initial.dst) × (l.dst ≡ put l.initial.dst l.to (part l.from l.i l.src))
+
+abbrev pub decreases-loop-i : goal.decreases-loop-i
+decreases-loop-i l = l.n - l.i

@@ -1,0 +1,16 @@
+use Prim.Native.Nat.{◌≤◌, ◌+◌, ◌-◌, ◌%◌}
+use mathlib.Core.Path.{◌≡◌, refl, sym, ◌∙◌}
+use mathlib.Core.Bool.{true, false}
+use lib.ListN.{length, take, drop}
+use borrow.Author.Rules.{rules}
+use native.Mathlib.Omega.{arith}
+use Rattle.model.specs.Memory.{regions, clash}
+use Rattle.model.proofs.Memory.{clash-turn, clash-none}
+use Rattle.regions.proofs.clashes.Given as goal
+
+-- The rest of the words has the whole list's answer: a region that overlaps ends the loop, the others are passed over.
+abbrev pub invariant-loop-i : goal.invariant-loop-i
+invariant-loop-i l = (l.i ≤ length l.seen + 2) × (clash (regions l.seen) l.g l.l ≡ clash (regions (drop l.i l.seen)) l.g l.l)
+
+abbrev pub decreases-loop-i : goal.decreases-loop-i
+decreases-loop-i l = length l.seen + 2 - l.i

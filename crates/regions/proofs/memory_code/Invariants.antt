@@ -1,0 +1,19 @@
+use Rattle.model.specs.Memory.{region_code, clash, regions_max}
+use lib.Seq.{length-take-le}
+use Prim.Native.Nat.{◌≤◌, ◌+◌, ◌-◌, ◌%◌, ◌/◌}
+use mathlib.Core.Path.{◌≡◌, refl, sym, ◌∙◌}
+use mathlib.Core.Bool.{true, false}
+use lib.ListN.{length, take, drop}
+use borrow.Author.Rules.{rules}
+use native.Mathlib.Omega.{arith}
+use Rattle.model.specs.Memory.{regions, regions_code, memory_code}
+use Rattle.model.proofs.Memory.{code-turn, code-none, code_from}
+use borrow.Author.Tests.{ne_eqb, eq-eqb, lt-ltb, le-ltb, le-leb, lt-leb}
+use Rattle.regions.proofs.memory_code.Given as goal
+
+-- The regions before i are seen and the others to come: `code_from` at i is the answer, and a refusal of the region at i is it.
+abbrev pub invariant-loop-i : goal.invariant-loop-i
+invariant-loop-i l = (l.i ≤ length l.map + 2) × (l.i % 3 ≡ 0) × (memory_code l.m l.map ≡ code_from l.m l.map l.i)
+
+abbrev pub decreases-loop-i : goal.decreases-loop-i
+decreases-loop-i l = length l.map + 2 - l.i
