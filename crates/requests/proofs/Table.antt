@@ -1,15 +1,15 @@
 -- Each form of 03 §3 gets the answer there, and no other form does.
-use Prim.Native.Nat.{ℕ, ◌-◌, ◌/◌, ◌%◌, ◌≤◌}
+use Prim.Native.Nat.{ℕ, ◌-◌, ◌/◌, ◌%◌}
 use native.Mathlib.Omega.{arith}
-use mathlib.Core.Bool.{Bool, true, false}
+use mathlib.Core.Bool.{true}
 use mathlib.Core.Path.{◌≡◌, refl}
 use lib.Dec.{leb, ltb, eqb}
-use borrow.Author.Tests.{ltb-true, ltb-false, leb-true, eqb-true, eqb-false, le-ltb, le-leb, eq-eqb, ne_eqb}
-use Rattle.model.specs.Pick.{pick, both}
+use borrow.Author.Tests.{ltb-false, eqb-true, eqb-false, le-ltb, le-leb, eq-eqb, ne_eqb}
+use Rattle.model.specs.Pick.{both}
 use Rattle.model.specs.Request.{fits, in_ok, out_ok, exactly, verdict, status}
 use Rattle.model.specs.declared.Disk.{Disk}
 use Rattle.model.specs.declared.Job.{Job}
-use Rattle.model.specs.declared.Job.TheVariants.{Failed, Unsupported, Done, Read, Write, Identity}
+use Rattle.model.specs.declared.Job.TheVariants.{Unsupported}
 use Rattle.model.proofs.Tests.{told, on, both-split}
 use Rattle.requests.specs.Table.{Fit, Accepted, reads, writes, flushes, tells, Other}
 

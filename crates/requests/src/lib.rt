@@ -1,3 +1,2 @@
 // Theorems about whole requests: what the steps add up to. No code.
 #![tactic(auto)]
-

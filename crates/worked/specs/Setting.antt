@@ -2,7 +2,7 @@
 use Rattle.std.specs.Prelude.{ℕ, zero, suc, ◌+◌, ◌-◌, ◌*◌, ◌/◌, ◌%◌, List, [], ◌∷◌, ◌++◌, replicate, get_or, Bool, true, false, eqb}
 use Rattle.model.specs.Bytes.{put, word, bytes}
 use Rattle.model.specs.Memory.{region}
-use Rattle.model.specs.Step.{Cfg, State, Out, step}
+use Rattle.model.specs.Step.{Cfg, Out, step}
 use Rattle.model.specs.declared.Phase.{Phase}
 use Rattle.model.specs.declared.Phase.TheVariants.{Poll, Entry, Chain, Header, Payload, Answer, Publish, Broken}
 use Rattle.model.specs.Pick.{both}
