@@ -4,7 +4,7 @@ use native.Mathlib.Omega.{arith}
 use native.Mathlib.Nat.{mod-lt}
 use mathlib.Core.Bool.{true}
 use mathlib.Core.Path.{◌≡◌}
-use mathlib.Core.List.{List, ◌∷◌}
+use mathlib.Core.List.{List, [], ◌∷◌}
 use lib.Dec.{eqb}
 use lib.ListN.{get_or}
 use Rattle.model.specs.Ring.{size_max}
@@ -24,11 +24,13 @@ use Rattle.trips.proofs.Ranges.{Each, apart-at, each-spans, inside-spans}
 
 -- a range in memory has a byte at least, and its addresses are below 2^64
 in_some : (rs : List Region) (a n x : ℕ) → InOne rs a n x → 1 ≤ n
+in_some [] a n x w = elim w [ ]
 in_some (r ∷ rest) a n x (here w) = w.some
 in_some (r ∷ rest) a n x (later w) = in_some rest a n x w
 
 in-below : (m : ℕ) (rs : List Region) (a n x : ℕ) → sound m rs ≡ true → InOne rs a n x → a + n ≤ 2 ^ 64 - 1
 unfolding sound
+in-below m [] a n x s w = elim w [ ]
 in-below m (r ∷ rest) a n x s (here w) =
     let p = picked (eqb (region_code m r) 0) (sound m rest) s in let k = region-sound m r (omega (told, p.0)) in omega arith
 in-below m (r ∷ rest) a n x s (later w) = in-below m rest a n x (picked (eqb (region_code m r) 0) (sound m rest) s).1 w
