@@ -1,0 +1,16 @@
+use native.Mathlib.Omega.{arith}
+use native.Mathlib.Nat.{mod-lt}
+use borrow.Author.Rules.{rules}
+use Rattle.ring.proofs.avail_entry.Goals as goal
+
+pub overflow_mul-taken : goal.overflow_mul-taken
+overflow_mul-taken c = omega (arith, mod-lt c.args.taken c.requires.le_q)
+
+pub overflow_add-taken : goal.overflow_add-taken
+overflow_add-taken c = omega (arith, mod-lt c.args.taken c.requires.le_q)
+
+pub overflow_add-avail : goal.overflow_add-avail
+overflow_add-avail c = omega (arith, mod-lt c.args.taken c.requires.le_q)
+
+pub get16-requires : goal.get16-requires
+get16-requires c = omega (arith, mod-lt c.args.taken c.requires.le_q)

@@ -1,0 +1,28 @@
+use native.Mathlib.Omega.{arith}
+use native.Mathlib.Nat.{mod-lt}
+use Rattle.model.specs.Bytes.{put, bytes}
+use Rattle.model.proofs.Lists.{put-put}
+use borrow.Author.Rules.{rules}
+use Rattle.ring.proofs.used_entry.Goals as goal
+
+pub overflow_mul-at : goal.overflow_mul-at
+overflow_mul-at c = omega (arith, mod-lt c.args.answered c.requires.le_size)
+
+pub overflow_add-at : goal.overflow_add-at
+overflow_add-at c = omega (arith, mod-lt c.args.answered c.requires.le_size)
+
+pub overflow_add-at-2 : goal.overflow_add-at-2
+overflow_add-at-2 c = omega (arith, mod-lt c.args.answered c.requires.le_size)
+
+pub put32-requires : goal.put32-requires
+put32-requires c = omega (arith, mod-lt c.args.answered c.requires.le_size)
+
+pub overflow_add-at-3 : goal.overflow_add-at-3
+overflow_add-at-3 c = omega (arith, mod-lt c.args.answered c.requires.le_size)
+
+pub put32-requires-2 : goal.put32-requires-2
+put32-requires-2 c = rw c.put32.auto.m (omega (arith, mod-lt c.args.answered c.requires.le_size, c.requires.size_in_bounds))
+
+pub returns : goal.returns
+unfolding bytes
+returns c = rw (c.put32-2.ensures, c.put32.ensures) (put-put _ _ (bytes 4 _) _)

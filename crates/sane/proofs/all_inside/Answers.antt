@@ -1,0 +1,21 @@
+use Prim.Native.Nat.{◌≤◌, ◌+◌, ◌-◌, ◌*◌}
+use lib.ListN.{length, take, drop}
+use borrow.Author.Rules.{rules}
+use native.Mathlib.Omega.{arith}
+use mathlib.Core.Path.{◌≡◌, refl, sym, ◌∙◌, ap}
+use Rattle.model.specs.Sane.{walk_ok, full_ok, job_ok, sane, inside, all_inside, place_is_ok, ready}
+use Rattle.model.proofs.Sane.{full-ok, header_ok, payload-ok, answer_ok, place_ok, inside-turn, inside-end}
+use Rattle.model.specs.Step.{spans}
+use Rattle.sane.proofs.all_inside.Goals as goal
+
+pub loop-i-init : goal.loop-i-init
+loop-i-init c = refl
+
+pub loop-i-preserved : goal.loop-i-preserved
+loop-i-preserved c = c.loop-i.invariant ∙ rw (inside-turn _ _ _ _ c.loop-i-test.true, ← c.inside.ensures, c.if-inside.true)
+
+pub returns-else-inside : goal.returns-else-inside
+returns-else-inside c = sym (c.loop-i.invariant ∙ rw (inside-turn _ _ _ _ c.loop-i-test.true, ← c.inside.ensures, c.if-inside.false))
+
+pub returns : goal.returns
+returns c = sym (c.loop-i.invariant ∙ inside-end _ _ _ _ c.loop-i-test.false)

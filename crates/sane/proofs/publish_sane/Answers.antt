@@ -1,0 +1,13 @@
+use Rattle.model.proofs.Tests.{tests}
+use mathlib.Core.Path.{◌≡◌, refl, sym, ◌∙◌, ap}
+use Rattle.model.specs.Sane.{walk_ok, full_ok, job_ok, sane, inside, all_inside, place_is_ok, ready}
+use borrow.Author.Rules.{rules}
+use Rattle.sane.proofs.publish_sane.Goals as goal
+
+pub returns-then-full_ok : goal.returns-then-full_ok
+unfolding sane
+returns-then-full_ok c = search (tests, sym c.full_ok.ensures ∙ c.if-full_ok.true)
+
+pub returns : goal.returns
+unfolding sane
+returns c = search (tests, sym c.full_ok.ensures ∙ c.if-full_ok.false)
