@@ -1,0 +1,49 @@
+use native.Mathlib.Omega.{arith}
+use Rattle.model.specs.Step.{spans, scatter, apply, writables, handed, disk_of, answer_stores}
+use Rattle.model.specs.Sane.{all_inside, job_ok}
+use Rattle.model.proofs.Step.{scatter-nil, apply-append}
+use Rattle.model.proofs.Sane.{read_fits}
+use Rattle.model.proofs.Lists.{part-part}
+use mathlib.Core.Path.{◌≡◌, refl, sym, ◌∙◌}
+use Prim.Native.Nat.{◌+◌, ◌-◌, ◌*◌}
+use borrow.Author.Rules.{rules}
+use Rattle.answer.proofs.hand.Goals as goal
+
+pub overflow_mul-s : goal.overflow_mul-s
+overflow_mul-s c = let f = read_fits _ _ _ (rw c.in-Read.is at c.requires.job_value) in omega (arith, f.to, c.requires.sectors_in_bounds)
+
+pub overflow_add-disk : goal.overflow_add-disk
+overflow_add-disk c = let f = read_fits _ _ _ (rw c.in-Read.is at c.requires.job_value) in omega (arith, f.to, c.requires.sectors_in_bounds)
+
+pub spread-requires-clause-n_in_bounds : goal.spread-requires-clause-n_in_bounds
+spread-requires-clause-n_in_bounds c = let f = read_fits _ _ _ (rw c.in-Read.is at c.requires.job_value) in omega (arith, f.to, c.requires.sectors_in_bounds)
+
+pub spread-requires-clause-end_in_bounds : goal.spread-requires-clause-end_in_bounds
+spread-requires-clause-end_in_bounds c = let f = read_fits _ _ _ (rw c.in-Read.is at c.requires.job_value) in c.requires.count_in_bounds
+
+pub spread-requires-clause-chain_value : goal.spread-requires-clause-chain_value
+spread-requires-clause-chain_value c = let f = read_fits _ _ _ (rw c.in-Read.is at c.requires.job_value) in c.requires.k_value
+
+pub returns-in-Failed : goal.returns-in-Failed
+unfolding handed
+returns-in-Failed c = rw (c.in-Failed.is, scatter-nil)
+
+pub returns-in-Unsupported : goal.returns-in-Unsupported
+unfolding handed
+returns-in-Unsupported c = rw (c.in-Unsupported.is, scatter-nil)
+
+pub returns-in-Done : goal.returns-in-Done
+unfolding handed
+returns-in-Done c = rw (c.in-Done.is, scatter-nil)
+
+pub returns-in-Read : goal.returns-in-Read
+unfolding handed
+returns-in-Read c = let a = c.args in let f = read_fits _ _ _ (rw c.in-Read.is at c.requires.job_value) in let s = c.in-Read.s in rw (c.in-Read.is, part-part a.disk.start (512 * s) (512 * a.disk.sectors) (a.k.w - 1) a.backing.now (omega (arith, f.to))) c.spread.ensures
+
+pub returns-in-Write : goal.returns-in-Write
+unfolding handed
+returns-in-Write c = rw (c.in-Write.is, scatter-nil)
+
+pub returns-in-Identity : goal.returns-in-Identity
+unfolding handed
+returns-in-Identity c = rw c.in-Identity.is c.spread_identity.ensures

@@ -1,0 +1,8 @@
+use Rattle.model.specs.Bytes.{put, part, bytes}
+use Rattle.answer.specs.Identity.{id_bytes}
+use borrow.Author.Rules.{rules}
+use Rattle.answer.proofs.spread_identity.Goals as goal
+
+pub returns : goal.returns
+unfolding id_bytes part put bytes
+returns c = rw (c.spread.ensures, c.put32.ensures, c.put64-2.ensures, c.put64.ensures)

@@ -1,0 +1,36 @@
+use native.Mathlib.Omega.{arith}
+use borrow.Author.Rules.{rules}
+use Rattle.device.proofs.descriptor.Goals as goal
+
+pub described-requires-clause-map_value : goal.described-requires-clause-map_value
+described-requires-clause-map_value c = c.requires.map_value
+
+pub described-requires-clause-q_le_size_max : goal.described-requires-clause-q_le_size_max
+described-requires-clause-q_le_size_max c = omega (arith, c.requires, c.fetch-d.ensures.len-fits)
+
+pub described-requires-clause-q_in_bounds : goal.described-requires-clause-q_in_bounds
+described-requires-clause-q_in_bounds c = omega (arith, c.requires, c.fetch-d.ensures.len-fits)
+
+pub described-requires-clause-count_le_q : goal.described-requires-clause-count_le_q
+described-requires-clause-count_le_q c = omega (arith, c.requires, c.fetch-d.ensures.len-fits)
+
+pub described-requires-clause-reads_le_q : goal.described-requires-clause-reads_le_q
+described-requires-clause-reads_le_q c = omega (arith, c.requires, c.fetch-d.ensures.len-fits)
+
+pub described-requires-clause-r_bound : goal.described-requires-clause-r_bound
+described-requires-clause-r_bound c = omega (arith, c.requires, c.fetch-d.ensures.len-fits)
+
+pub described-requires-clause-w_bound : goal.described-requires-clause-w_bound
+described-requires-clause-w_bound c = omega (arith, c.requires, c.fetch-d.ensures.len-fits)
+
+pub described-requires-clause-len_bound : goal.described-requires-clause-len_bound
+described-requires-clause-len_bound c = omega (arith, c.requires, c.fetch-d.ensures.len-fits)
+
+pub returns-clause-phase_value : goal.returns-clause-phase_value
+returns-clause-phase_value c = let is = c.fetch-d.ensures.is in rw (← is) c.described.ensures.phase_value
+
+pub returns-clause-descs_value : goal.returns-clause-descs_value
+returns-clause-descs_value c = let is = c.fetch-d.ensures.is in rw (← is) c.described.ensures.descs_value
+
+pub returns-clause-chain_after : goal.returns-clause-chain_after
+returns-clause-chain_after c = let is = c.fetch-d.ensures.is in rw (← is) c.described.ensures.chain_after

@@ -1,0 +1,5 @@
+use borrow.Author.Rules.{rules}
+use Rattle.device.proofs.entry.Goals as goal
+
+pub returns : goal.returns
+returns c = rw (← c.avail_entry-head.ensures.0) c.headed.ensures

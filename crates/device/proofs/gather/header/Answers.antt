@@ -1,0 +1,8 @@
+use borrow.Author.Rules.{rules}
+use Rattle.device.proofs.gather.header.Goals as goal
+
+pub returns-clause-stage_after : goal.returns-clause-stage_after
+returns-clause-stage_after c = rw (c.copy.ensures, c.smaller-n.ensures)
+
+pub returns-clause-value : goal.returns-clause-value
+returns-clause-value c = rw (← c.smaller-n.ensures, ← c.get32-kind.ensures.value, ← c.get64-sector.ensures) c.gathered.ensures

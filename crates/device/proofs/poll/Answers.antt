@@ -1,0 +1,5 @@
+use borrow.Author.Rules.{rules}
+use Rattle.device.proofs.poll.Goals as goal
+
+pub returns : goal.returns
+returns c = rw (← c.avail_idx-idx.ensures.0) c.polled.ensures

@@ -1,0 +1,21 @@
+use Rattle.driver.specs.Lay.{form_ok, formed, measured}
+use mathlib.Core.Path.{◌≡◌, refl, sym, ◌∙◌, ap}
+use native.Mathlib.Omega.{arith}
+use Prim.Native.Nat.{◌-◌}
+use borrow.Author.Tests.{eq-eqb, ne_eqb}
+use borrow.Author.Rules.{rules}
+use Rattle.driver.proofs.form.form_ok.Reads as reads
+use Rattle.driver.proofs.form.form_ok.Lts as lts
+use Rattle.driver.proofs.form.formed.Reads as formed-reads
+use Rattle.driver.proofs.form.measure.Reads as measure-reads
+use Rattle.driver.proofs.form.form_ok.Goals as goal
+
+-- src/form.rt:51:9
+pub returns-then-readable-r : goal.returns-then-readable-r
+unfolding form_ok
+returns-then-readable-r c = let z : c.args.reads - 0 ≡ c.args.reads = omega arith in let m = rw z at c.measure-readable.ensures in rw (← m, eq-eqb _ _ c.if-readable-r.true, ← c.measure-writable.ensures) c.formed.ensures
+
+-- src/form.rt:43:1
+pub returns : goal.returns
+unfolding form_ok
+returns c = let z : c.args.reads - 0 ≡ c.args.reads = omega arith in let m = rw z at c.measure-readable.ensures in rw (← m, ne_eqb _ _ c.if-readable-r.false)

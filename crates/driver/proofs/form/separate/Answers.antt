@@ -1,0 +1,27 @@
+use Rattle.driver.specs.Lay.{span, clear_of, separate}
+use mathlib.Core.Path.{◌≡◌, refl, sym, ◌∙◌, ap}
+use native.Mathlib.Omega.{arith}
+use borrow.Author.Rules.{rules}
+use Prim.Native.Nat.{◌≤◌, ◌+◌, ◌-◌, ◌*◌, ◌/◌, ◌<◌}
+use Rattle.model.specs.Step.{spans}
+use Rattle.driver.proofs.Laws.{separate-turn, separate-end}
+use Rattle.driver.proofs.form.separate.Reads as reads
+use Rattle.driver.proofs.form.separate.Lts as lts
+use Rattle.driver.proofs.form.clear_of.Reads as clear-of-reads
+use Rattle.driver.proofs.form.separate.Goals as goal
+
+-- src/form.rt:77:5
+pub loop-i-init : goal.loop-i-init
+loop-i-init c = let z : c.args.end - 0 ≡ c.args.end = omega arith in rw z refl
+
+-- src/form.rt:77:5
+pub loop-i-preserved : goal.loop-i-preserved
+loop-i-preserved c = c.loop-i.invariant ∙ rw (separate-turn _ _ _ c.loop-i-test.true, ← c.Clear-of.ensures, c.if-clear_of.true)
+
+-- src/form.rt:81:13
+pub returns-else-clear_of : goal.returns-else-clear_of
+returns-else-clear_of c = sym (c.loop-i.invariant ∙ rw (separate-turn _ _ _ c.loop-i-test.true, ← c.Clear-of.ensures, c.if-clear_of.false))
+
+-- src/form.rt:72:1
+pub returns : goal.returns
+returns c = sym (c.loop-i.invariant ∙ separate-end _ _ _ c.loop-i-test.false)

@@ -1,0 +1,36 @@
+use mathlib.Core.Path.{◌≡◌, refl, sym, ◌∙◌, ap}
+use Rattle.driver.specs.Lay.{attached_with, attached, publish_code, published, lay, lay_on}
+use borrow.Author.Tests.{eq-eqb, ne_eqb, lt-ltb, le-ltb, le-leb, lt-leb}
+use native.Mathlib.Omega.{arith}
+use Rattle.driver.proofs.Fits.{laid-fits, fit-notes, fit-writes, one-more-mod}
+use borrow.Author.Rules.{rules}
+use Rattle.driver.proofs.laying.lay.Reads as reads
+use Rattle.driver.proofs.laying.lay.Lts as lts
+use Rattle.driver.proofs.plan.plan.Reads as plan-reads
+use Rattle.driver.proofs.writes.note.Reads as note-reads
+use Rattle.driver.proofs.writes.write.Reads as write-reads
+use Rattle.ring.proofs.one_more.Reads as one-more-reads
+use Rattle.driver.proofs.laying.lay.Goals as goal
+
+-- src/laying.rt:83:9
+pub returns-then-code-ne0 : goal.returns-then-code-ne0
+unfolding lay lay_on
+returns-then-code-ne0 c = let p = c.plan-code.ensures in rw (← p.code_is, ne_eqb _ 0 c.if-code-ne0.true) (record { answer-is = refl; mem_is = refl; own_is = refl; message-is = refl; spots-are = p.spots-are; nums-are = p.nums-are })
+
+-- src/laying.rt:86:5
+-- CONV: clauses ['in_bounds', 'le_e', 'e_in_bounds', 'numbers']
+pub note-requires : goal.note-requires
+note-requires c = fit-notes _ _ _ _ _ _ _ _ _ _ _ (laid-fits _ _ _ _ _ _ _ _ _ _ _ _ _ c.plan-code.ensures c.if-code-ne0.false)
+
+-- src/laying.rt:87:5
+pub write-requires : goal.write-requires
+write-requires c = fit-writes _ _ _ _ _ _ _ _ _ _ _ (laid-fits _ _ _ _ _ _ _ _ _ _ _ _ _ c.plan-code.ensures c.if-code-ne0.false)
+
+-- src/laying.rt:94:9
+pub bounds-nums-0 : goal.bounds-nums-0
+bounds-nums-0 c = let f = fit-notes _ _ _ _ _ _ _ _ _ _ _ (laid-fits _ _ _ _ _ _ _ _ _ _ _ _ _ c.plan-code.ensures c.if-code-ne0.false) in omega (arith, f.1.0, f.1.1.0)
+
+-- src/laying.rt:56:1
+pub returns : goal.returns
+unfolding lay lay_on
+returns c = let p = c.plan-code.ensures in rw (← p.code_is, ← p.spots-are, ← p.nums-are, eq-eqb _ 0 c.if-code-ne0.false) (record { answer-is = rw (c.one_more.ensures, one-more-mod) refl; mem_is = rw (← c.note.ensures.message_after) c.write.ensures; own_is = c.note.ensures.own_after; message-is = c.note.ensures.message_after; spots-are = refl; nums-are = refl })

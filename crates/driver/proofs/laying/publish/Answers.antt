@@ -1,0 +1,30 @@
+use mathlib.Core.Path.{◌≡◌, refl, sym, ◌∙◌, ap}
+use Rattle.driver.specs.Lay.{attached_with, attached, publish_code, published, lay, lay_on}
+use native.Mathlib.Omega.{arith}
+use Rattle.driver.proofs.Laws.{queue-ok}
+use borrow.Author.Rules.{rules}
+use Rattle.driver.proofs.laying.publish.Reads as reads
+use Rattle.driver.proofs.laying.publish.Lts as lts
+use Rattle.driver.proofs.room.queue_in.Reads as queue-in-reads
+use Rattle.wire.proofs.put16.Reads as put16-reads
+use Rattle.driver.proofs.laying.publish.Goals as goal
+
+-- src/laying.rt:105:26
+pub overflow_add-q : goal.overflow_add-q
+overflow_add-q c = omega (arith, queue-ok _ _ (sym c.queue_in.ensures ∙ c.if-queue_in.true))
+
+-- src/laying.rt:105:9
+pub put16-requires : goal.put16-requires
+put16-requires c = omega (arith, queue-ok _ _ (sym c.queue_in.ensures ∙ c.if-queue_in.true))
+
+-- src/laying.rt:106:9
+-- CONV: clauses ['value', 'mem_after']
+pub returns-then-queue_in : goal.returns-then-queue_in
+unfolding publish_code published
+returns-then-queue_in c = rw (← c.queue_in.ensures, c.if-queue_in.true) (refl, c.put16.ensures)
+
+-- src/laying.rt:99:1
+-- CONV: clauses ['value', 'mem_after']
+pub returns : goal.returns
+unfolding publish_code published
+returns c = rw (← c.queue_in.ensures, c.if-queue_in.false) (refl, refl)

@@ -1,0 +1,31 @@
+use mathlib.Core.Path.{◌≡◌, refl, sym, ◌∙◌, ap}
+use Rattle.driver.specs.Lay.{header, descriptor, flags_of, next_of, link, links, free, noted, marked, ready, queue_in}
+use native.Mathlib.Omega.{arith}
+use borrow.Author.Rules.{rules}
+use Prim.Native.Nat.{◌≤◌, ◌+◌, ◌-◌, ◌*◌, ◌/◌, ◌<◌, min}
+use lib.ListN.{length, get_or, take, length-take}
+use Rattle.model.proofs.Lists.{put-nil}
+use Rattle.model.specs.Bytes.{put}
+use borrow.Author.Tests.{le-leb, lt-leb}
+use Rattle.driver.proofs.Laws.{choose-start, choose-turn, min-leb}
+use native.Mathlib.Numerals.{add-one}
+use lib.Dec.{leb}
+use Rattle.driver.proofs.plan.choose.Reads as reads
+use Rattle.driver.proofs.plan.choose.Lts as lts
+use Rattle.driver.proofs.plan.note.Reads as note-reads
+use Rattle.driver.proofs.plan.choose.Goals as goal
+
+-- src/plan.rt:40:5
+pub loop-i-init : goal.loop-i-init
+loop-i-init c = let t = choose-start c.args.own.now c.args.nums.now c.args.n in (omega arith, t.0, refl, t.1)
+
+-- src/plan.rt:40:5
+pub loop-i-preserved : goal.loop-i-preserved
+loop-i-preserved c = let t = choose-turn c.args.own.now c.args.nums.now c.loop-i.i c.args.n c.loop-i.k (omega arith) c.loop-i.invariant.1 in (omega arith, rw add-one (c.note-k.ensures.value ∙ sym t.0), omega (arith, c.note-k.auto.nums, c.loop-i.invariant.2), rw add-one (rw (c.note-k.ensures.nums_after, c.loop-i.invariant.3) (sym t.1)))
+
+-- src/plan.rt:32:1
+pub returns-clause-value : goal.returns-clause-value
+returns-clause-value c = let z : c.loop-i.i ≡ c.args.q = omega arith in let k = rw z at c.loop-i.invariant.1 in rw k (min-leb c.args.n (length (free c.args.q c.args.own.now)))
+
+pub returns-clause-nums_after : goal.returns-clause-nums_after
+returns-clause-nums_after c = let z : c.loop-i.i ≡ c.args.q = omega arith in let k = rw z at c.loop-i.invariant.1 in rw z at c.loop-i.invariant.3

@@ -1,0 +1,53 @@
+use mathlib.Core.Path.{◌≡◌, refl, sym, ◌∙◌, ap}
+use Rattle.driver.specs.Take.{used_idx, outstanding, freed, released, countable, judged, used_word, taken, own_after, spots_in, status_of, data_of}
+use native.Mathlib.Omega.{arith}
+use Rattle.driver.proofs.Answers.{released-turn, gather-turn, gather-end, spots-in-ok, countable-ok}
+use borrow.Author.Tests.{eq-eqb, ne_eqb, lt-ltb, le-ltb, le-leb, lt-leb}
+use borrow.Author.Rules.{rules}
+use Rattle.driver.proofs.reading.judge.Reads as reads
+use Rattle.driver.proofs.reading.judge.Lts as lts
+use Rattle.driver.proofs.reading.countable.Reads as countable-reads
+use Rattle.driver.proofs.reading.outstanding.Reads as outstanding-reads
+use Rattle.ring.proofs.one_more.Reads as one-more-reads
+use Rattle.ring.proofs.pending.Reads as pending-reads
+use Rattle.driver.proofs.reading.judge.Goals as goal
+
+-- src/reading.rt:43:13
+pub pending-n-requires-clause-idx_bound : goal.pending-n-requires-clause-idx_bound
+pending-n-requires-clause-idx_bound c = let k = countable-ok _ _ _ _ (sym c.countable.ensures ∙ c.if-countable.true) in k.1
+
+pub pending-n-requires-clause-taken_bound : goal.pending-n-requires-clause-taken_bound
+pending-n-requires-clause-taken_bound c = let k = countable-ok _ _ _ _ (sym c.countable.ensures ∙ c.if-countable.true) in k.2
+
+-- src/reading.rt:45:13
+pub returns-then-n-eq0 : goal.returns-then-n-eq0
+unfolding judged
+returns-then-n-eq0 c = rw (← c.countable.ensures, c.if-countable.true, ← c.pending-n.ensures, eq-eqb _ 0 c.if-n-eq0.true)
+
+-- src/reading.rt:48:13
+pub returns-then-q-n : goal.returns-then-q-n
+unfolding judged
+returns-then-q-n c = rw (← c.countable.ensures, c.if-countable.true, ← c.pending-n.ensures, ne_eqb _ 0 c.if-n-eq0.false, lt-ltb _ _ c.if-q-n.true)
+
+-- src/reading.rt:50:12
+pub outstanding-requires : goal.outstanding-requires
+outstanding-requires c = let k = countable-ok _ _ _ _ (sym c.countable.ensures ∙ c.if-countable.true) in k.0
+
+-- src/reading.rt:55:27
+pub one_more-requires : goal.one_more-requires
+one_more-requires c = let k = countable-ok _ _ _ _ (sym c.countable.ensures ∙ c.if-countable.true) in k.2
+
+-- src/reading.rt:51:13
+pub returns-then-outstanding : goal.returns-then-outstanding
+unfolding judged
+returns-then-outstanding c = rw (← c.countable.ensures, c.if-countable.true, ← c.pending-n.ensures, ne_eqb _ 0 c.if-n-eq0.false, le-ltb _ _ c.if-q-n.false, ← c.outstanding.ensures, c.if-outstanding.true, c.one_more.ensures)
+
+-- src/reading.rt:61:9
+pub returns-then-countable : goal.returns-then-countable
+unfolding judged
+returns-then-countable c = rw (← c.countable.ensures, c.if-countable.true, ← c.pending-n.ensures, ne_eqb _ 0 c.if-n-eq0.false, le-ltb _ _ c.if-q-n.false, ← c.outstanding.ensures, c.if-outstanding.false)
+
+-- src/reading.rt:38:1
+pub returns : goal.returns
+unfolding judged
+returns c = rw (← c.countable.ensures, c.if-countable.false)

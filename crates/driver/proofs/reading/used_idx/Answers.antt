@@ -1,0 +1,28 @@
+use mathlib.Core.Path.{◌≡◌, refl, sym, ◌∙◌, ap}
+use Rattle.driver.specs.Take.{used_idx, outstanding, freed, released, countable, judged, used_word, taken, own_after, spots_in, status_of, data_of}
+use native.Mathlib.Omega.{arith}
+use Rattle.driver.proofs.Laws.{queue-ok}
+use borrow.Author.Rules.{rules}
+use Rattle.driver.proofs.reading.used_idx.Reads as reads
+use Rattle.driver.proofs.reading.used_idx.Lts as lts
+use Rattle.driver.proofs.room.queue_in.Reads as queue-in-reads
+use Rattle.wire.proofs.get16.Reads as get16-reads
+use Rattle.driver.proofs.reading.used_idx.Goals as goal
+
+-- src/reading.rt:22:33
+pub overflow_add-q : goal.overflow_add-q
+overflow_add-q c = omega (arith, queue-ok _ _ (sym c.queue_in.ensures ∙ c.if-queue_in.true))
+
+-- src/reading.rt:22:9
+pub get16-requires : goal.get16-requires
+get16-requires c = omega (arith, queue-ok _ _ (sym c.queue_in.ensures ∙ c.if-queue_in.true))
+
+-- src/reading.rt:22:9
+pub returns-then-queue_in : goal.returns-then-queue_in
+unfolding used_idx
+returns-then-queue_in c = rw (← c.queue_in.ensures, c.if-queue_in.true) c.get16.ensures.value
+
+-- src/reading.rt:17:1
+pub returns : goal.returns
+unfolding used_idx
+returns c = rw (← c.queue_in.ensures, c.if-queue_in.false)

@@ -1,0 +1,39 @@
+use Rattle.driver.specs.Lay.{span, queue_in, counts_ok, spot_of, spot_at, is_at, place_of, in_memory, settled, area_words, formed, measured, form_ok, clear_of, separate}
+use mathlib.Core.Path.{◌≡◌, refl, sym, ◌∙◌, ap}
+use native.Mathlib.Omega.{arith}
+use borrow.Author.Rules.{rules}
+use Prim.Native.Nat.{◌≤◌, ◌+◌, ◌-◌, ◌*◌, ◌/◌, ◌<◌}
+use Rattle.model.specs.Memory.{regions}
+use lib.ListN.{length}
+use Rattle.model.specs.Chain.{held}
+use Rattle.driver.proofs.Laws.{in-turn, in_end, settled-turn, settled-end}
+use Rattle.driver.proofs.room.settle.Reads as reads
+use Rattle.driver.proofs.room.settle.Lts as lts
+use Rattle.chain.proofs.hold.Reads as hold-reads
+use Rattle.driver.proofs.room.spot_of.Reads as spot-of-reads
+use Rattle.driver.proofs.room.settle.Goals as goal
+
+-- src/room.rt:70:5
+pub loop-i-init : goal.loop-i-init
+loop-i-init c = let z : c.args.e - 0 ≡ c.args.e = omega arith in (refl, rw z refl, rw z refl)
+
+-- src/room.rt:74:13
+pub returns-in_default-clause-value : goal.returns-in_default-clause-value
+unfolding is_at
+returns-in_default-clause-value c = let f = sym c.spot_of_lem.ensures ∙ c.in_default.is in let t = c.loop-i-test.true in sym (c.loop-i.invariant.1 ∙ rw (in-turn _ _ _ _ t, f))
+
+pub returns-in_default-clause-spots_after : goal.returns-in_default-clause-spots_after
+unfolding is_at
+returns-in_default-clause-spots_after c = let f = sym c.spot_of_lem.ensures ∙ c.in_default.is in let t = c.loop-i-test.true in sym (c.loop-i.invariant.2 ∙ rw (settled-turn _ _ _ _ _ t, f))
+
+-- src/room.rt:70:5
+pub loop-i-preserved : goal.loop-i-preserved
+unfolding is_at place_of held
+loop-i-preserved c = let f = sym c.spot_of_lem.ensures ∙ c.in-At.is in let t = c.loop-i-test.true in (omega (arith, c.hold.auto.chain, c.loop-i.invariant.0), c.loop-i.invariant.1 ∙ rw (in-turn _ _ _ _ t, f), c.loop-i.invariant.2 ∙ rw (settled-turn _ _ _ _ _ t, f, c.hold.ensures))
+
+-- src/room.rt:62:1
+pub returns-clause-value : goal.returns-clause-value
+returns-clause-value c = sym (c.loop-i.invariant.1 ∙ in_end _ _ _ _ c.loop-i-test.false)
+
+pub returns-clause-spots_after : goal.returns-clause-spots_after
+returns-clause-spots_after c = sym (c.loop-i.invariant.2 ∙ settled-end _ _ _ _ _ c.loop-i-test.false)

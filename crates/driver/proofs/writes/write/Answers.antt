@@ -1,0 +1,56 @@
+use mathlib.Core.Path.{◌≡◌, refl, sym, ◌∙◌, ap}
+use native.Mathlib.Omega.{arith}
+use Prim.Native.Nat.{◌≤◌, ◌+◌, ◌-◌, ◌*◌, ◌/◌, ◌<◌, min}
+use native.Mathlib.Nat.{mod-lt}
+use Rattle.driver.proofs.Laws.{write-stores}
+use Rattle.driver.specs.Fit.{WriteFit}
+use borrow.Author.Rules.{rules}
+use Rattle.driver.proofs.writes.write.Reads as reads
+use Rattle.driver.proofs.writes.write.Lts as lts
+use Rattle.answer.proofs.spread.Reads as spread-reads
+use Rattle.driver.proofs.writes.chain_up.Reads as chain-up-reads
+use Rattle.wire.proofs.put16.Reads as put16-reads
+use Rattle.driver.proofs.writes.write.Goals as goal
+
+-- src/writes.rt:113:5
+pub spread-requires-clause-n_in_bounds : goal.spread-requires-clause-n_in_bounds
+spread-requires-clause-n_in_bounds c = let f = c.requires in let z : c.args.reads - 0 ≡ c.args.reads = omega arith in omega arith
+
+pub spread-requires-clause-end_in_bounds : goal.spread-requires-clause-end_in_bounds
+spread-requires-clause-end_in_bounds c = let f = c.requires in let z : c.args.reads - 0 ≡ c.args.reads = omega arith in omega (arith, f.reads_in, f.spots-long)
+
+pub spread-requires-clause-chain_value : goal.spread-requires-clause-chain_value
+spread-requires-clause-chain_value c = let f = c.requires in let z : c.args.reads - 0 ≡ c.args.reads = omega arith in rw z f.buffers-in
+
+-- src/writes.rt:114:5
+pub chain_up-requires-clause-size_in_bounds : goal.chain_up-requires-clause-size_in_bounds
+chain_up-requires-clause-size_in_bounds c = let f = c.requires in omega (arith, f.desc-in, c.spread.auto.mem)
+
+pub chain_up-requires-clause-e_in_bounds : goal.chain_up-requires-clause-e_in_bounds
+chain_up-requires-clause-e_in_bounds c = let f = c.requires in omega arith
+
+pub chain_up-requires-clause-e_in_bounds_2 : goal.chain_up-requires-clause-e_in_bounds_2
+chain_up-requires-clause-e_in_bounds_2 c = let f = c.requires in f.nums-long
+
+pub chain_up-requires-clause-numbers : goal.chain_up-requires-clause-numbers
+chain_up-requires-clause-numbers c = let f = c.requires in f.numbers
+
+-- src/writes.rt:115:37
+pub overflow_mul-next : goal.overflow_mul-next
+overflow_mul-next c = let f = c.requires in omega (arith, mod-lt c.args.next f.some_size, f.avail-in)
+
+-- src/writes.rt:115:33
+pub overflow_add-next : goal.overflow_add-next
+overflow_add-next c = let f = c.requires in omega (arith, mod-lt c.args.next f.some_size, f.avail-in)
+
+-- src/writes.rt:115:22
+pub overflow_add-q : goal.overflow_add-q
+overflow_add-q c = let f = c.requires in omega (arith, mod-lt c.args.next f.some_size, f.avail-in)
+
+-- src/writes.rt:115:5
+pub put16-requires : goal.put16-requires
+put16-requires c = let f = c.requires in omega (arith, mod-lt c.args.next f.some_size, f.avail-in, c.chain_up.auto.mem, c.spread.auto.mem)
+
+-- src/writes.rt:99:1
+pub returns : goal.returns
+returns c = rw (c.put16.ensures, c.chain_up.ensures, c.spread.ensures) (write-stores _ _ _ _ _ _ _ _ _)
