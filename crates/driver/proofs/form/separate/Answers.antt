@@ -16,11 +16,11 @@ loop-i-init c = let z : c.args.end - 0 ≡ c.args.end = omega arith in rw z refl
 
 -- src/form.rt:77:5
 pub loop-i-preserved : goal.loop-i-preserved
-loop-i-preserved c = c.loop-i.invariant ∙ rw (separate-turn _ _ _ c.loop-i-test.true, ← c.Clear-of.ensures, c.if-clear_of.true)
+loop-i-preserved c = c.loop-i.invariant ∙ rw (separate-turn _ _ _ c.loop-i-test.true, ← c.clear_of.ensures, c.if-clear_of.true)
 
 -- src/form.rt:81:13
 pub returns-else-clear_of : goal.returns-else-clear_of
-returns-else-clear_of c = sym (c.loop-i.invariant ∙ rw (separate-turn _ _ _ c.loop-i-test.true, ← c.Clear-of.ensures, c.if-clear_of.false))
+returns-else-clear_of c = sym (c.loop-i.invariant ∙ rw (separate-turn _ _ _ c.loop-i-test.true, ← c.clear_of.ensures, c.if-clear_of.false))
 
 -- src/form.rt:72:1
 pub returns : goal.returns

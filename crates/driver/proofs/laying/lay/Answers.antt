@@ -18,9 +18,10 @@ unfolding lay lay_on
 returns-then-code-ne0 c = let p = c.plan-code.ensures in rw (← p.code_is, ne_eqb _ 0 c.if-code-ne0.true) (record { answer-is = refl; mem_is = refl; own_is = refl; message-is = refl; spots-are = p.spots-are; nums-are = p.nums-are })
 
 -- src/laying.rt:86:5
--- CONV: clauses ['in_bounds', 'le_e', 'e_in_bounds', 'numbers']
 pub note-requires : goal.note-requires
-note-requires c = fit-notes _ _ _ _ _ _ _ _ _ _ _ (laid-fits _ _ _ _ _ _ _ _ _ _ _ _ _ c.plan-code.ensures c.if-code-ne0.false)
+note-requires c =
+    let f = fit-notes _ _ _ _ _ _ _ _ _ _ _ (laid-fits _ _ _ _ _ _ _ _ _ _ _ _ _ c.plan-code.ensures c.if-code-ne0.false) in
+    record { in_bounds = f.0; le_e = f.1.0; e_in_bounds = f.1.1.0; numbers = f.1.1.1 }
 
 -- src/laying.rt:87:5
 pub write-requires : goal.write-requires

@@ -18,13 +18,11 @@ pub put16-requires : goal.put16-requires
 put16-requires c = omega (arith, queue-ok _ _ (sym c.queue_in.ensures ∙ c.if-queue_in.true))
 
 -- src/laying.rt:106:9
--- CONV: clauses ['value', 'mem_after']
 pub returns-then-queue_in : goal.returns-then-queue_in
 unfolding publish_code published
-returns-then-queue_in c = rw (← c.queue_in.ensures, c.if-queue_in.true) (refl, c.put16.ensures)
+returns-then-queue_in c = rw (← c.queue_in.ensures, c.if-queue_in.true) (record { value = refl; mem_after = c.put16.ensures })
 
 -- src/laying.rt:99:1
--- CONV: clauses ['value', 'mem_after']
 pub returns : goal.returns
 unfolding publish_code published
-returns c = rw (← c.queue_in.ensures, c.if-queue_in.false) (refl, refl)
+returns c = rw (← c.queue_in.ensures, c.if-queue_in.false) (record { value = refl; mem_after = refl })

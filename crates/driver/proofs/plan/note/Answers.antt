@@ -10,19 +10,16 @@ use Rattle.driver.proofs.plan.note.Lts as lts
 use Rattle.driver.proofs.plan.note.Goals as goal
 
 -- src/plan.rt:24:13
--- CONV: clauses ['value', 'nums_after']
 pub returns-then-k-n : goal.returns-then-k-n
 unfolding noted
-returns-then-k-n c = rw (eq-eqb _ 0 c.if-state-eq0.true, lt-ltb _ _ c.if-k-n.true) (refl, sym (put_one _ _ _))
+returns-then-k-n c = rw (eq-eqb _ 0 c.if-state-eq0.true, lt-ltb _ _ c.if-k-n.true) (record { value = refl; nums_after = sym (put_one _ _ _) })
 
 -- src/plan.rt:26:9
--- CONV: clauses ['value', 'nums_after']
 pub returns-then-state-eq0 : goal.returns-then-state-eq0
 unfolding noted
-returns-then-state-eq0 c = rw (eq-eqb _ 0 c.if-state-eq0.true, le-ltb _ _ c.if-k-n.false) (omega arith, sym (put-nil _ _))
+returns-then-state-eq0 c = rw (eq-eqb _ 0 c.if-state-eq0.true, le-ltb _ _ c.if-k-n.false) (record { value = omega arith; nums_after = sym (put-nil _ _) })
 
 -- src/plan.rt:16:1
--- CONV: clauses ['value', 'nums_after']
 pub returns : goal.returns
 unfolding noted
-returns c = rw (ne_eqb _ 0 c.if-state-eq0.false) (omega arith, sym (put-nil _ _))
+returns c = rw (ne_eqb _ 0 c.if-state-eq0.false) (record { value = omega arith; nums_after = sym (put-nil _ _) })

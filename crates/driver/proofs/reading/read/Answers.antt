@@ -17,13 +17,11 @@ pub collect-requires-clause-spots_value : goal.collect-requires-clause-spots_val
 collect-requires-clause-spots_value c = let s = spots-in-ok _ _ _ _ (sym c.spots_in.ensures ∙ c.if-spots_in.true) in s.all_in
 
 -- src/reading.rt:188:9
--- CONV: clauses ['value', 'out_after']
 pub returns-then-spots_in : goal.returns-then-spots_in
 unfolding data_of
-returns-then-spots_in c = rw (← c.spots_in.ensures, c.if-spots_in.true) (refl, c.collect.ensures)
+returns-then-spots_in c = rw (← c.spots_in.ensures, c.if-spots_in.true) (record { value = refl; out_after = c.collect.ensures })
 
 -- src/reading.rt:182:1
--- CONV: clauses ['value', 'out_after']
 pub returns : goal.returns
 unfolding data_of
-returns c = rw (← c.spots_in.ensures, c.if-spots_in.false) (refl, refl)
+returns c = rw (← c.spots_in.ensures, c.if-spots_in.false) (record { value = refl; out_after = refl })

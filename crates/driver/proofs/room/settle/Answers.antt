@@ -20,16 +20,16 @@ loop-i-init c = let z : c.args.e - 0 ≡ c.args.e = omega arith in (refl, rw z r
 -- src/room.rt:74:13
 pub returns-in_default-clause-value : goal.returns-in_default-clause-value
 unfolding is_at
-returns-in_default-clause-value c = let f = sym c.spot_of_lem.ensures ∙ c.in_default.is in let t = c.loop-i-test.true in sym (c.loop-i.invariant.1 ∙ rw (in-turn _ _ _ _ t, f))
+returns-in_default-clause-value c = let f = sym c.spot_of-found.ensures ∙ c.in_default.is in let t = c.loop-i-test.true in sym (c.loop-i.invariant.1 ∙ rw (in-turn _ _ _ _ t, f))
 
 pub returns-in_default-clause-spots_after : goal.returns-in_default-clause-spots_after
 unfolding is_at
-returns-in_default-clause-spots_after c = let f = sym c.spot_of_lem.ensures ∙ c.in_default.is in let t = c.loop-i-test.true in sym (c.loop-i.invariant.2 ∙ rw (settled-turn _ _ _ _ _ t, f))
+returns-in_default-clause-spots_after c = let f = sym c.spot_of-found.ensures ∙ c.in_default.is in let t = c.loop-i-test.true in sym (c.loop-i.invariant.2 ∙ rw (settled-turn _ _ _ _ _ t, f))
 
 -- src/room.rt:70:5
 pub loop-i-preserved : goal.loop-i-preserved
 unfolding is_at place_of held
-loop-i-preserved c = let f = sym c.spot_of_lem.ensures ∙ c.in-At.is in let t = c.loop-i-test.true in (omega (arith, c.hold.auto.chain, c.loop-i.invariant.0), c.loop-i.invariant.1 ∙ rw (in-turn _ _ _ _ t, f), c.loop-i.invariant.2 ∙ rw (settled-turn _ _ _ _ _ t, f, c.hold.ensures))
+loop-i-preserved c = let f = sym c.spot_of-found.ensures ∙ c.in-At.is in let t = c.loop-i-test.true in (omega (arith, c.hold.auto.chain, c.loop-i.invariant.0), c.loop-i.invariant.1 ∙ rw (in-turn _ _ _ _ t, f), c.loop-i.invariant.2 ∙ rw (settled-turn _ _ _ _ _ t, f, c.hold.ensures))
 
 -- src/room.rt:62:1
 pub returns-clause-value : goal.returns-clause-value

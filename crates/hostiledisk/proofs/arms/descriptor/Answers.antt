@@ -1,0 +1,54 @@
+use native.Mathlib.Omega.{arith}
+use mathlib.Core.Path.{◌≡◌, refl, sym, ◌∙◌}
+use Rattle.words.proofs.Laws.{map-long}
+use Rattle.words.proofs.Laws.{framed-queue}
+use Rattle.words.proofs.Saved.{kept-descs}
+use lib.ListN.{get_or, length-set}
+use Prim.Native.Nat.{◌+◌, ◌-◌, ◌*◌}
+use Rattle.model.specs.Bytes.{part}
+use Rattle.model.specs.Sane.{ready}
+use Rattle.model.specs.Step.{code_after}
+use Rattle.model.proofs.Sane.{chain-ok}
+use Rattle.model.proofs.Chain.{chain-on}
+use Rattle.words.specs.Layout.{config_at, regions_word}
+use Rattle.device.proofs.Laws.{met-chain}
+use Rattle.hostiledisk.proofs.Phases.{held-chain, sane-chain, framed-few, fit-held, insane, acted}
+use borrow.Author.Rules.{rules}
+use Rattle.hostiledisk.proofs.arms.descriptor.Goals as goal
+
+pub chain_sane-requires : goal.chain_sane-requires
+chain_sane-requires c = (framed-queue _ c.requires.frame).size-high
+
+pub overflow_mul-end : goal.overflow_mul-end
+overflow_mul-end c = omega (arith, framed-few _ c.requires.frame)
+
+pub overflow_add-end : goal.overflow_add-end
+overflow_add-end c = omega (arith, framed-few _ c.requires.frame)
+
+pub slice_bounds-descriptor-end : goal.slice_bounds-descriptor-end
+slice_bounds-descriptor-end c = omega (arith, framed-few _ c.requires.frame, c.requires.words_long)
+
+-- CONV: clauses ['map_value', 'size_le_size_max', 'size_in_bounds', 'size_in_bounds_2', 'cur_lt_size', 'count_le_size', 'reads_le_count', 'r_bound', 'w_bound']
+pub descriptor-x-requires : goal.descriptor-x-requires
+unfolding part config_at ready
+descriptor-x-requires c = let n = get_or c.args.state.now regions_word 0 in let e = map-long n in let t = sym c.chain_sane.ensures ∙ c.if-chain_sane.true in let f = fit-held _ _ _ _ c.args.chain.now _ (held-chain _ _ _ _ _ c.requires _ c.walk_at-k.ensures) (sane-chain _ _ _ _ t) refl in let h = chain-ok _ _ _ _ t in rw (c.queue_at-q.ensures, e) (f.sound-map, omega (arith, h, f))
+
+pub save_chain-requires : goal.save_chain-requires
+save_chain-requires c = c.requires.words_long
+
+pub returns-in-Chain : goal.returns-in-Chain
+unfolding part code_after ready
+returns-in-Chain c = let n = get_or c.args.state.now regions_word 0 in let e = map-long n in let q = c.queue_at-q.ensures in let d = c.descriptor-x.ensures in let g = c.in-Chain.is in let t = rw (q, e) at d.phase_value in acted _ _ _ _ _ _ (held-chain _ _ _ _ _ c.requires _ c.walk_at-k.ensures) (sane-chain _ _ _ _ (sym c.chain_sane.ensures ∙ c.if-chain_sane.true)) refl _ _ _ _ _ _ _ _ _ _ (met-chain _ _ _ _ _ _ _ _ _ _ _ _ _ t (sym (chain-on _ _ _ _ _ _ _ (sym t ∙ g))) (rw (q, e) at d.chain_after)) (rw g c.save_chain.ensures) _ (rw g)
+
+pub finish-requires : goal.finish-requires
+finish-requires c = simp length-set c.requires.words_long
+
+pub shape_of-state-then-chain_sane : goal.shape_of-state-then-chain_sane
+shape_of-state-then-chain_sane c = c.finish.auto.state ∙ simp length-set
+
+pub returns-then-chain_sane : goal.returns-then-chain_sane
+unfolding part ready
+returns-then-chain_sane c = let n = get_or c.args.state.now regions_word 0 in let e = map-long n in let q = c.queue_at-q.ensures in let d = c.descriptor-x.ensures in acted _ _ _ _ _ _ (held-chain _ _ _ _ _ c.requires _ c.walk_at-k.ensures) (sane-chain _ _ _ _ (sym c.chain_sane.ensures ∙ c.if-chain_sane.true)) refl _ _ _ _ _ _ _ _ _ _ (met-chain _ _ _ _ _ _ _ _ _ _ _ _ _ (rw (q, e) at d.phase_value) (rw (q, e) at d.descs_value) (rw (q, e) at d.chain_after)) (c.finish.ensures.state_after ∙ kept-descs _ _ _ c.requires.words_long) _ c.finish.ensures.value
+
+pub returns : goal.returns
+returns c = insane _ _ _ _ _ _ (held-chain _ _ _ _ _ c.requires _ c.walk_at-k.ensures) (sane-chain _ _ _ _ (sym c.chain_sane.ensures ∙ c.if-chain_sane.false))

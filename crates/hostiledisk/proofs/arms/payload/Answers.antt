@@ -1,0 +1,38 @@
+use native.Mathlib.Omega.{arith}
+use mathlib.Core.Path.{◌≡◌, refl, sym, ◌∙◌}
+use Rattle.words.proofs.Laws.{framed-queue}
+use Rattle.model.specs.Step.{code_after}
+use Rattle.model.proofs.Sane.{payload-ok}
+use Rattle.device.proofs.Laws.{met-paid, payload-fit}
+use Rattle.hostiledisk.proofs.Phases.{held-payload, ready-payload, chain-long, fit-held, insane, unready, acted}
+use borrow.Author.Rules.{rules}
+use Rattle.hostiledisk.proofs.arms.payload.Goals as goal
+
+pub payload_sane-requires : goal.payload_sane-requires
+payload_sane-requires c = (framed-queue _ c.requires.frame).size-high
+
+-- CONV: clauses ['buf_in_bounds', 'lt_r', 'got_bound']
+pub payload_ready-requires : goal.payload_ready-requires
+payload_ready-requires c = let h = payload-ok _ _ _ _ _ _ (sym c.payload_sane.ensures ∙ c.if-payload_sane.true) in omega (arith, h, (chain-long _ _ _ _ _ _ (held-payload _ _ _ _ _ c.requires _ _ c.walk_at-k.ensures c.place_at-at.ensures)).1)
+
+pub payload-p-requires : goal.payload-p-requires
+payload-p-requires c = rw c.disk_at-d.ensures (payload-fit _ _ _ _ _ _ _ _ _ _ _ _ (fit-held _ _ _ _ _ _ (held-payload _ _ _ _ _ c.requires _ _ c.walk_at-k.ensures c.place_at-at.ensures) (sym c.payload_sane.ensures ∙ c.if-payload_sane.true) (ready-payload _ _ _ _ _ _ (sym c.payload_ready.ensures ∙ c.if-payload_ready.true))))
+
+pub save_payload-requires : goal.save_payload-requires
+save_payload-requires c = c.requires.words_long
+
+pub returns-in-Payload : goal.returns-in-Payload
+unfolding code_after
+returns-in-Payload c = let g = c.in-Payload.is in acted _ _ _ _ _ _ (held-payload _ _ _ _ _ c.requires _ _ c.walk_at-k.ensures c.place_at-at.ensures) (sym c.payload_sane.ensures ∙ c.if-payload_sane.true) (ready-payload _ _ _ _ _ _ (sym c.payload_ready.ensures ∙ c.if-payload_ready.true)) _ _ _ _ _ _ _ _ _ _ (met-paid _ _ _ _ _ _ _ _ _ _ _ _ _ _ _ c.payload-p.ensures.value c.payload-p.ensures.stage_after (rw c.disk_at-d.ensures at c.payload-p.ensures.backing_after)) (rw g c.save_payload.ensures) _ (rw g)
+
+pub finish-requires : goal.finish-requires
+finish-requires c = c.requires.words_long
+
+pub returns-then-payload_ready : goal.returns-then-payload_ready
+returns-then-payload_ready c = acted _ _ _ _ _ _ (held-payload _ _ _ _ _ c.requires _ _ c.walk_at-k.ensures c.place_at-at.ensures) (sym c.payload_sane.ensures ∙ c.if-payload_sane.true) (ready-payload _ _ _ _ _ _ (sym c.payload_ready.ensures ∙ c.if-payload_ready.true)) _ _ _ _ _ _ _ _ _ _ (met-paid _ _ _ _ _ _ _ _ _ _ _ _ _ _ _ c.payload-p.ensures.value c.payload-p.ensures.stage_after (rw c.disk_at-d.ensures at c.payload-p.ensures.backing_after)) c.finish.ensures.state_after _ c.finish.ensures.value
+
+pub returns-then-payload_sane : goal.returns-then-payload_sane
+returns-then-payload_sane c = unready _ _ _ _ _ _ (held-payload _ _ _ _ _ c.requires _ _ c.walk_at-k.ensures c.place_at-at.ensures) (sym c.payload_sane.ensures ∙ c.if-payload_sane.true) (ready-payload _ _ _ _ _ _ (sym c.payload_ready.ensures ∙ c.if-payload_ready.false))
+
+pub returns : goal.returns
+returns c = insane _ _ _ _ _ _ (held-payload _ _ _ _ _ c.requires _ _ c.walk_at-k.ensures c.place_at-at.ensures) (sym c.payload_sane.ensures ∙ c.if-payload_sane.false)

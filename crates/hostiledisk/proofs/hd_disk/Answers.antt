@@ -1,0 +1,54 @@
+use borrow.Author.Tests.{ne_eqb, eq-eqb, lt-ltb, le-ltb, le-leb, lt-leb}
+use Rattle.hostiledisk.specs.Calls.{chain_words, hd_memory, flag, disk_set, hd_disk, queue_set, enabled_with, hd_enable_at, hd_reset, seen, seen_of, shown, status_words, hd_status, is_broken, long_enough, stepped, stepped_on, Going, hd_step, StepIs}
+use mathlib.Core.Path.{◌≡◌, refl, sym, ◌∙◌, ap}
+use Rattle.words.specs.Layout.{state_words}
+use borrow.Author.Rules.{rules}
+use Rattle.hostiledisk.proofs.hd_disk.Goals as goal
+
+pub returns-then-state-lt-STATE_WORDS-clause-value : goal.returns-then-state-lt-STATE_WORDS-clause-value
+unfolding hd_disk
+returns-then-state-lt-STATE_WORDS-clause-value c = rw (lt-ltb _ state_words c.if-state-lt-STATE_WORDS.true)
+
+pub returns-then-state-lt-STATE_WORDS-clause-state_after : goal.returns-then-state-lt-STATE_WORDS-clause-state_after
+unfolding hd_disk
+returns-then-state-lt-STATE_WORDS-clause-state_after c = rw (lt-ltb _ state_words c.if-state-lt-STATE_WORDS.true)
+
+pub returns-then-level-lt1-clause-value : goal.returns-then-level-lt1-clause-value
+unfolding hd_disk
+returns-then-level-lt1-clause-value c = rw (le-ltb _ state_words c.if-state-lt-STATE_WORDS.false, ← c.level-level.ensures, lt-leb 1 _ c.if-level-lt1.true)
+
+pub returns-then-level-lt1-clause-state_after : goal.returns-then-level-lt1-clause-state_after
+unfolding hd_disk
+returns-then-level-lt1-clause-state_after c = rw (le-ltb _ state_words c.if-state-lt-STATE_WORDS.false, ← c.level-level.ensures, lt-leb 1 _ c.if-level-lt1.true)
+
+pub returns-then-level-gt2-clause-value : goal.returns-then-level-gt2-clause-value
+unfolding hd_disk
+returns-then-level-gt2-clause-value c = rw (le-ltb _ state_words c.if-state-lt-STATE_WORDS.false, ← c.level-level.ensures, le-leb 1 _ c.if-level-lt1.false, lt-leb _ 2 c.if-level-gt2.true)
+
+pub returns-then-level-gt2-clause-state_after : goal.returns-then-level-gt2-clause-state_after
+unfolding hd_disk
+returns-then-level-gt2-clause-state_after c = rw (le-ltb _ state_words c.if-state-lt-STATE_WORDS.false, ← c.level-level.ensures, le-leb 1 _ c.if-level-lt1.false, lt-leb _ 2 c.if-level-gt2.true)
+
+pub returns-then-id-ne20-clause-value : goal.returns-then-id-ne20-clause-value
+unfolding hd_disk
+returns-then-id-ne20-clause-value c = rw (le-ltb _ state_words c.if-state-lt-STATE_WORDS.false, ← c.level-level.ensures, le-leb 1 _ c.if-level-lt1.false, le-leb _ 2 c.if-level-gt2.false, ne_eqb _ 20 c.if-id-ne20.true)
+
+pub returns-then-id-ne20-clause-state_after : goal.returns-then-id-ne20-clause-state_after
+unfolding hd_disk
+returns-then-id-ne20-clause-state_after c = rw (le-ltb _ state_words c.if-state-lt-STATE_WORDS.false, ← c.level-level.ensures, le-leb 1 _ c.if-level-lt1.false, le-leb _ 2 c.if-level-gt2.false, ne_eqb _ 20 c.if-id-ne20.true)
+
+pub returns-then-code-ne0-clause-value : goal.returns-then-code-ne0-clause-value
+unfolding hd_disk
+returns-then-code-ne0-clause-value c = rw (le-ltb _ state_words c.if-state-lt-STATE_WORDS.false, ← c.level-level.ensures, le-leb 1 _ c.if-level-lt1.false, le-leb _ 2 c.if-level-gt2.false, eq-eqb _ 20 c.if-id-ne20.false, ← c.disk_code-code.ensures, ne_eqb _ 0 c.if-code-ne0.true)
+
+pub returns-then-code-ne0-clause-state_after : goal.returns-then-code-ne0-clause-state_after
+unfolding hd_disk
+returns-then-code-ne0-clause-state_after c = rw (le-ltb _ state_words c.if-state-lt-STATE_WORDS.false, ← c.level-level.ensures, le-leb 1 _ c.if-level-lt1.false, le-leb _ 2 c.if-level-gt2.false, eq-eqb _ 20 c.if-id-ne20.false, ← c.disk_code-code.ensures, ne_eqb _ 0 c.if-code-ne0.true)
+
+pub returns-clause-value : goal.returns-clause-value
+unfolding hd_disk
+returns-clause-value c = rw (le-ltb _ state_words c.if-state-lt-STATE_WORDS.false, ← c.level-level.ensures, le-leb 1 _ c.if-level-lt1.false, le-leb _ 2 c.if-level-gt2.false, eq-eqb _ 20 c.if-id-ne20.false, ← c.disk_code-code.ensures, eq-eqb _ 0 c.if-code-ne0.false)
+
+pub returns-clause-state_after : goal.returns-clause-state_after
+unfolding hd_disk
+returns-clause-state_after c = rw (le-ltb _ state_words c.if-state-lt-STATE_WORDS.false, ← c.level-level.ensures, le-leb 1 _ c.if-level-lt1.false, le-leb _ 2 c.if-level-gt2.false, eq-eqb _ 20 c.if-id-ne20.false, ← c.disk_code-code.ensures, eq-eqb _ 0 c.if-code-ne0.false) c.note_disk.ensures

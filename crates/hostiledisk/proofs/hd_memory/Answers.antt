@@ -1,0 +1,39 @@
+use borrow.Author.Tests.{ne_eqb, eq-eqb, lt-ltb, le-ltb, le-leb, lt-leb}
+use native.Mathlib.Omega.{arith}
+use Rattle.model.proofs.Memory.{mapped}
+use Rattle.hostiledisk.specs.Calls.{chain_words, hd_memory, flag, disk_set, hd_disk, queue_set, enabled_with, hd_enable_at, hd_reset, seen, seen_of, shown, status_words, hd_status, is_broken, long_enough, stepped, stepped_on, Going, hd_step, StepIs}
+use mathlib.Core.Path.{◌≡◌, refl, sym, ◌∙◌, ap}
+use Rattle.hostiledisk.proofs.Laws.{level-two, level-three, fit_of, untouched-is}
+use Rattle.words.specs.Layout.{state_words}
+use borrow.Author.Rules.{rules}
+use Rattle.hostiledisk.proofs.hd_memory.Goals as goal
+
+pub returns-then-state-lt-STATE_WORDS-clause-value : goal.returns-then-state-lt-STATE_WORDS-clause-value
+unfolding hd_memory
+returns-then-state-lt-STATE_WORDS-clause-value c = let t = lt-ltb _ state_words c.if-state-lt-STATE_WORDS.true in rw t
+
+pub returns-then-state-lt-STATE_WORDS-clause-state_after : goal.returns-then-state-lt-STATE_WORDS-clause-state_after
+unfolding hd_memory
+returns-then-state-lt-STATE_WORDS-clause-state_after c = let t = lt-ltb _ state_words c.if-state-lt-STATE_WORDS.true in rw t
+
+pub returns-then-code-ne0-clause-value : goal.returns-then-code-ne0-clause-value
+unfolding hd_memory
+returns-then-code-ne0-clause-value c = let t = le-ltb _ state_words c.if-state-lt-STATE_WORDS.false in let e = c.memory_code-code.ensures in let u = ne_eqb _ 0 c.if-code-ne0.true in rw (t, ← e, u)
+
+pub returns-then-code-ne0-clause-state_after : goal.returns-then-code-ne0-clause-state_after
+unfolding hd_memory
+returns-then-code-ne0-clause-state_after c = let t = le-ltb _ state_words c.if-state-lt-STATE_WORDS.false in let e = c.memory_code-code.ensures in let u = ne_eqb _ 0 c.if-code-ne0.true in rw (t, ← e, u)
+
+pub note_memory-requires-clause-state_words_in_bounds : goal.note_memory-requires-clause-state_words_in_bounds
+note_memory-requires-clause-state_words_in_bounds c = c.if-state-lt-STATE_WORDS.false
+
+pub note_memory-requires-clause-map_len_bound : goal.note_memory-requires-clause-map_len_bound
+note_memory-requires-clause-map_len_bound c = let few = mapped _ _ (sym c.memory_code-code.ensures ∙ c.if-code-ne0.false) in omega (arith, few.threes, few.few)
+
+pub returns-clause-value : goal.returns-clause-value
+unfolding hd_memory
+returns-clause-value c = let t = le-ltb _ state_words c.if-state-lt-STATE_WORDS.false in let e = c.memory_code-code.ensures in let u = eq-eqb _ 0 c.if-code-ne0.false in rw (t, ← e, u)
+
+pub returns-clause-state_after : goal.returns-clause-state_after
+unfolding hd_memory
+returns-clause-state_after c = let t = le-ltb _ state_words c.if-state-lt-STATE_WORDS.false in let e = c.memory_code-code.ensures in let u = eq-eqb _ 0 c.if-code-ne0.false in rw (t, ← e, u) c.note_memory.ensures

@@ -1,0 +1,30 @@
+use borrow.Author.Tests.{ne_eqb, eq-eqb, lt-ltb, le-ltb, le-leb, lt-leb}
+use Rattle.hostiledisk.specs.Calls.{chain_words, hd_memory, flag, disk_set, hd_disk, queue_set, enabled_with, hd_enable_at, hd_reset, seen, seen_of, shown, status_words, hd_status, is_broken, long_enough, stepped, stepped_on, Going, hd_step, StepIs}
+use mathlib.Core.Path.{◌≡◌, refl, sym, ◌∙◌, ap}
+use Rattle.words.specs.Layout.{state_words}
+use borrow.Author.Rules.{rules}
+use Rattle.hostiledisk.proofs.hd_reset.Goals as goal
+
+pub returns-then-state-lt-STATE_WORDS-clause-value : goal.returns-then-state-lt-STATE_WORDS-clause-value
+unfolding hd_reset
+returns-then-state-lt-STATE_WORDS-clause-value c = rw (lt-ltb _ state_words c.if-state-lt-STATE_WORDS.true)
+
+pub returns-then-state-lt-STATE_WORDS-clause-state_after : goal.returns-then-state-lt-STATE_WORDS-clause-state_after
+unfolding hd_reset
+returns-then-state-lt-STATE_WORDS-clause-state_after c = rw (lt-ltb _ state_words c.if-state-lt-STATE_WORDS.true)
+
+pub returns-then-level-eq3-clause-value : goal.returns-then-level-eq3-clause-value
+unfolding hd_reset
+returns-then-level-eq3-clause-value c = rw (le-ltb _ state_words c.if-state-lt-STATE_WORDS.false)
+
+pub returns-then-level-eq3-clause-state_after : goal.returns-then-level-eq3-clause-state_after
+unfolding hd_reset
+returns-then-level-eq3-clause-state_after c = rw (le-ltb _ state_words c.if-state-lt-STATE_WORDS.false, ← c.level.ensures, eq-eqb _ 3 c.if-level-eq3.true)
+
+pub returns-clause-value : goal.returns-clause-value
+unfolding hd_reset
+returns-clause-value c = rw (le-ltb _ state_words c.if-state-lt-STATE_WORDS.false)
+
+pub returns-clause-state_after : goal.returns-clause-state_after
+unfolding hd_reset
+returns-clause-state_after c = rw (le-ltb _ state_words c.if-state-lt-STATE_WORDS.false, ← c.level.ensures, ne_eqb _ 3 c.if-level-eq3.false)

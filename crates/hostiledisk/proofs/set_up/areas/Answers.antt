@@ -1,0 +1,27 @@
+use native.Mathlib.Omega.{arith}
+use mathlib.Core.Path.{◌≡◌, refl, sym, ◌∙◌, ap}
+use lib.ListN.{get_or, length-set}
+use Prim.Native.Nat.{◌+◌, ◌-◌, ◌*◌, ◌^◌}
+use Rattle.words.specs.Layout.{regions_word}
+use Rattle.words.proofs.Laws.{map-long}
+use Rattle.hostiledisk.proofs.Laws.{memory-ok}
+use Rattle.model.specs.Bytes.{part}
+use borrow.Author.Rules.{rules}
+use Rattle.hostiledisk.proofs.set_up.areas.Goals as goal
+
+pub overflow_mul-end : goal.overflow_mul-end
+overflow_mul-end c = omega (arith, (memory-ok _ c.requires.state_value).few)
+
+pub overflow_add-end : goal.overflow_add-end
+overflow_add-end c = omega (arith, (memory-ok _ c.requires.state_value).few)
+
+pub slice_bounds-areas-end : goal.slice_bounds-areas-end
+slice_bounds-areas-end c = omega (arith, (memory-ok _ c.requires.state_value).few, c.requires.state_words_in_bounds)
+
+pub areas-requires : goal.areas-requires
+unfolding part
+areas-requires c = let n = get_or c.args.state.now regions_word 0 in let e = map-long n in rw e (memory-ok _ c.requires.state_value).sound-map
+
+pub returns : goal.returns
+unfolding part
+returns c = let n = get_or c.args.state.now regions_word 0 in let e = map-long n in rw e at c.areas.ensures

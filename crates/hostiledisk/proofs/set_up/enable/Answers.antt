@@ -1,0 +1,50 @@
+use native.Mathlib.Omega.{arith}
+use borrow.Author.Tests.{ne_eqb, eq-eqb, lt-ltb, le-ltb, le-leb, lt-leb}
+use Rattle.hostiledisk.specs.Calls.{chain_words, hd_memory, flag, disk_set, hd_disk, queue_set, enabled_with, hd_enable_at, hd_reset, seen, seen_of, shown, status_words, hd_status, is_broken, long_enough, stepped, stepped_on, Going, hd_step, StepIs}
+use mathlib.Core.Path.{◌≡◌, refl, sym, ◌∙◌, ap}
+use Prim.Native.Nat.{◌+◌, ◌-◌, ◌*◌, ◌^◌}
+use borrow.Author.Rules.{rules}
+use Rattle.hostiledisk.proofs.set_up.enable.Goals as goal
+
+pub returns-then-chain-q-clause-value : goal.returns-then-chain-q-clause-value
+unfolding enabled_with
+returns-then-chain-q-clause-value c = let q = c.in-Placed.q in let a = c.args in let g = c.in-Placed.is in let t = lt-ltb a.chain (2 * q.size) (omega arith) in rw (g, t)
+
+pub returns-then-chain-q-clause-state_after : goal.returns-then-chain-q-clause-state_after
+unfolding enabled_with
+returns-then-chain-q-clause-state_after c = let q = c.in-Placed.q in let a = c.args in let g = c.in-Placed.is in let t = lt-ltb a.chain (2 * q.size) (omega arith) in rw (g, t)
+
+pub returns-then-stage-lt1048576-clause-value : goal.returns-then-stage-lt1048576-clause-value
+unfolding enabled_with
+returns-then-stage-lt1048576-clause-value c = let q = c.in-Placed.q in let a = c.args in let g = c.in-Placed.is in let t = le-ltb a.chain (2 * q.size) (omega arith) in let u = lt-ltb a.stage 1048576 (omega arith) in rw (g, t, u)
+
+pub returns-then-stage-lt1048576-clause-state_after : goal.returns-then-stage-lt1048576-clause-state_after
+unfolding enabled_with
+returns-then-stage-lt1048576-clause-state_after c = let q = c.in-Placed.q in let a = c.args in let g = c.in-Placed.is in let t = le-ltb a.chain (2 * q.size) (omega arith) in let u = lt-ltb a.stage 1048576 (omega arith) in rw (g, t, u)
+
+pub returns-then-start-ge65536-clause-value : goal.returns-then-start-ge65536-clause-value
+unfolding enabled_with
+returns-then-start-ge65536-clause-value c = let q = c.in-Placed.q in let a = c.args in let g = c.in-Placed.is in let t = le-ltb a.chain (2 * q.size) (omega arith) in let u = le-ltb a.stage 1048576 (omega arith) in let v = le-leb 65536 a.start (omega arith) in rw (g, t, u, v)
+
+pub returns-then-start-ge65536-clause-state_after : goal.returns-then-start-ge65536-clause-state_after
+unfolding enabled_with
+returns-then-start-ge65536-clause-state_after c = let q = c.in-Placed.q in let a = c.args in let g = c.in-Placed.is in let t = le-ltb a.chain (2 * q.size) (omega arith) in let u = le-ltb a.stage 1048576 (omega arith) in let v = le-leb 65536 a.start (omega arith) in rw (g, t, u, v)
+
+pub returns-in-Refused-clause-value : goal.returns-in-Refused-clause-value
+unfolding enabled_with
+returns-in-Refused-clause-value c = rw c.in-Refused.is
+
+pub returns-in-Refused-clause-state_after : goal.returns-in-Refused-clause-state_after
+unfolding enabled_with
+returns-in-Refused-clause-state_after c = rw c.in-Refused.is
+
+pub shape_of-state : goal.shape_of-state
+shape_of-state c = c.note_queue.auto.state
+
+pub returns-else-start-ge65536-clause-value : goal.returns-else-start-ge65536-clause-value
+unfolding enabled_with
+returns-else-start-ge65536-clause-value c = let q = c.in-Placed.q in let a = c.args in let g = c.in-Placed.is in let t = le-ltb a.chain (2 * q.size) (omega arith) in let u = le-ltb a.stage 1048576 (omega arith) in let v = lt-leb 65536 a.start (omega arith) in rw (g, t, u, v)
+
+pub returns-else-start-ge65536-clause-state_after : goal.returns-else-start-ge65536-clause-state_after
+unfolding enabled_with
+returns-else-start-ge65536-clause-state_after c = let q = c.in-Placed.q in let a = c.args in let g = c.in-Placed.is in let t = le-ltb a.chain (2 * q.size) (omega arith) in let u = le-ltb a.stage 1048576 (omega arith) in let v = lt-leb 65536 a.start (omega arith) in rw (g, t, u, v) c.note_queue.ensures

@@ -1,0 +1,24 @@
+use lib.ListN.{get_or, length-set}
+use mathlib.Core.Path.{◌≡◌, refl, sym, ◌∙◌, ap}
+use Rattle.model.proofs.Lists.{put-cons, put-nil}
+use native.Mathlib.Omega.{arith}
+use lib.ListN.{length-set}
+use borrow.Author.Rules.{rules}
+use Rattle.hostiledisk.specs.Calls.{memory_set}
+use Rattle.hostiledisk.proofs.set_up.note_memory.Goals as goal
+
+pub bounds-state-1 : goal.bounds-state-1
+bounds-state-1 c = simp length-set (omega arith)
+
+pub bounds-state-2 : goal.bounds-state-2
+bounds-state-2 c = simp length-set (omega arith)
+
+pub keep-requires : goal.keep-requires
+keep-requires c = simp length-set (omega arith)
+
+pub shape_of-state : goal.shape_of-state
+shape_of-state c = c.keep.auto.held ∙ simp length-set
+
+pub returns : goal.returns
+unfolding memory_set
+returns c = rw c.keep.ensures (simp (put-cons, put-nil))

@@ -1,0 +1,28 @@
+use Rattle.hostiledisk.specs.Calls.{chain_words, hd_memory, flag, disk_set, hd_disk, queue_set, enabled_with, hd_enable_at, hd_reset, seen, seen_of, shown, status_words, hd_status, is_broken, long_enough, stepped, stepped_on, Going, hd_step, StepIs}
+use Rattle.model.proofs.Lists.{put-cons, put-nil}
+use native.Mathlib.Omega.{arith}
+use lib.ListN.{length-set}
+use borrow.Author.Rules.{rules}
+use Rattle.hostiledisk.proofs.status.show.Goals as goal
+
+pub bounds-out-1 : goal.bounds-out-1
+bounds-out-1 c = simp length-set (omega arith)
+
+pub bounds-out-2 : goal.bounds-out-2
+bounds-out-2 c = simp length-set (omega arith)
+
+pub bounds-out-3 : goal.bounds-out-3
+bounds-out-3 c = simp length-set (omega arith)
+
+pub bounds-out-4 : goal.bounds-out-4
+bounds-out-4 c = simp length-set (omega arith)
+
+pub bounds-out-5 : goal.bounds-out-5
+bounds-out-5 c = simp length-set (omega arith)
+
+pub bounds-out-6 : goal.bounds-out-6
+bounds-out-6 c = simp length-set (omega arith)
+
+pub returns : goal.returns
+unfolding shown
+returns c = simp (put-cons, put-nil)

@@ -1,0 +1,28 @@
+use Rattle.model.proofs.Tests.{tests}
+use Rattle.words.specs.Layout.{job_tag, job_sector, row, row_of, job_of, phase_of, row_at, row_words, saved, config_at, map_words, memory_ok, disk_ok, queue_ok, lent_ok, tags_ok, phase_ok, enabled_ok, level}
+use borrow.Author.Rules.{rules}
+use Rattle.words.proofs.job_tag.Goals as goal
+
+pub returns-in-Done : goal.returns-in-Done
+unfolding job_tag
+returns-in-Done c = search tests
+
+pub returns-in-Failed : goal.returns-in-Failed
+unfolding job_tag
+returns-in-Failed c = search tests
+
+pub returns-in-Unsupported : goal.returns-in-Unsupported
+unfolding job_tag
+returns-in-Unsupported c = search tests
+
+pub returns-in-Read : goal.returns-in-Read
+unfolding job_tag
+returns-in-Read c = search tests
+
+pub returns-in-Identity : goal.returns-in-Identity
+unfolding job_tag
+returns-in-Identity c = search tests
+
+pub returns-in-Write : goal.returns-in-Write
+unfolding job_tag
+returns-in-Write c = search tests

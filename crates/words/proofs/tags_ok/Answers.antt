@@ -1,0 +1,19 @@
+use Rattle.model.proofs.Tests.{tests}
+use Rattle.words.specs.Layout.{job_tag, job_sector, row, row_of, job_of, phase_of, row_at, row_words, saved, config_at, map_words, memory_ok, disk_ok, queue_ok, lent_ok, tags_ok, phase_ok, enabled_ok, level}
+use Rattle.words.proofs.tags_ok.Goals as goal
+
+pub returns-then-tag-lt1 : goal.returns-then-tag-lt1
+unfolding tags_ok
+returns-then-tag-lt1 c = search tests
+
+pub returns-then-tag-gt8 : goal.returns-then-tag-gt8
+unfolding tags_ok
+returns-then-tag-gt8 c = search tests
+
+pub returns-then-tag-eq6 : goal.returns-then-tag-eq6
+unfolding tags_ok
+returns-then-tag-eq6 c = search tests
+
+pub returns : goal.returns
+unfolding tags_ok
+returns c = search tests
