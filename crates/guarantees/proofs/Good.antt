@@ -33,6 +33,7 @@ both_true true false p q = q
 both_true false b p q = p
 
 in_some : (rs : List Region) (a n x : ℕ) → InOne rs a n x → 1 ≤ n
+in_some [] a n x i = elim i [ ]
 in_some (r ∷ rs) a n x (here w) = w.some
 in_some (r ∷ rs) a n x (later w) = in_some rs a n x w
 

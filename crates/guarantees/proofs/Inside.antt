@@ -22,6 +22,7 @@ use Rattle.model.specs.declared.Phase.TheVariants.{Poll, Entry, Chain, Header, P
 
 -- a part of a range that lies in one region lies in that region
 in-sub : (rs : List Region) (a n x o k : ℕ) → InOne rs a n x → 1 ≤ k → o + k ≤ n → InOne rs (a + o) k (x + o)
+in-sub [] a n x o k i h l = elim i [ ]
 in-sub (r ∷ rs) a n x o k (here w) h l =
     let v : Within r (a + o) k (x + o) =
     record { some = h; from = omega (arith, w.from); to = omega (arith, w.to); at_place = omega (arith, w.at_place, w.from) } in
