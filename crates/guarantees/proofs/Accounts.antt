@@ -1,5 +1,5 @@
 -- 11 and 12: the heads answered are the heads taken, in order, each once; used idx is published for an entry that an earlier step wrote.
-use Prim.Native.Nat.{ℕ, zero, suc, ◌+◌, ◌-◌, ◌*◌, ◌/◌, ◌%◌, ◌≤◌, ◌<◌}
+use Prim.Native.Nat.{ℕ, ◌+◌, ◌*◌, ◌≤◌, ◌<◌}
 use mathlib.Core.Bool.{Bool, true, false}
 use mathlib.Core.List.{List, [], ◌∷◌, ◌++◌, map, append_assoc}
 use mathlib.Core.Path.{◌≡◌, refl, sym, ap, ◌∙◌}
@@ -10,7 +10,7 @@ use lib.Seq.{get_or-set_same}
 use borrow.Author.Tests.{ne_eqb, eq-eqb, le-ltb, ltb-false, leb-true, eqb-true, eqb-false}
 use Rattle.model.specs.Pick.{pick, both}
 use Rattle.model.specs.Bytes.{put, word}
-use Rattle.model.specs.Ring.{polled, headed, pending, areas}
+use Rattle.model.specs.Ring.{polled, pending, areas}
 use Rattle.model.specs.Chain.{desc_at, tested, tally, complete, described}
 use Rattle.model.specs.Request.{verdict, decided, disk_code}
 use Rattle.model.specs.Step.{Cfg, left, lacks, ends, onward, gathered, paid, next, effect, code_of, code_after, counted, fetched, measured, step, step_with}
@@ -24,7 +24,7 @@ use Rattle.model.specs.Memory.{regions, memory_code}
 use Rattle.model.specs.declared.Areas.{Areas}
 use Rattle.model.specs.declared.Areas.TheVariants.{Refused, Placed}
 use Rattle.guarantees.specs.Accounts.{held, at_hand, Fate, answered, dropped, head_of, takes, gives, taken, fates, taken_in, fates_in}
-use Rattle.guarantees.specs.History.{Call, memory, disk, enable, reset, step as stepOver, World, ran, left as leaves, run, BytesNow, Bytes}
+use Rattle.guarantees.specs.History.{Call, memory, disk, enable, reset, step as step_over, World, ran, left as leaves, run, BytesNow, Bytes}
 use Rattle.guarantees.specs.Good.{Made}
 use Rattle.guarantees.proofs.Step.{by_answer}
 use Rattle.guarantees.proofs.Reached.{Kept, kept-call, level-tag, memory-tag, disk-tag, queue-phase}
@@ -167,7 +167,7 @@ account-stepped w mem b g m =
 
 -- one step, on the words
 account-step : (w : World) (mem : List ℕ) → ((i : ℕ) → get_or mem i 0 < 256) → Kept w
-    → at_hand w ++ taken w (stepOver mem) ≡ map head_of (fates w (stepOver mem)) ++ at_hand (leaves (ran w (stepOver mem)))
+    → at_hand w ++ taken w (step_over mem) ≡ map head_of (fates w (step_over mem)) ++ at_hand (leaves (ran w (step_over mem)))
 unfolding taken fates ran
 account-step w mem b k =
     let s = w.state in
@@ -268,7 +268,7 @@ account-call w (memory words m) b k = account-memory w words m
 account-call w (disk start sectors ro id backing) b k = account-disk w start sectors ro id backing
 account-call w (enable size desc avail used chain stage start) b k = account-enable w size desc avail used chain stage start
 account-call w reset b k = account-reset w
-account-call w (stepOver mem) b k = account-step w mem b k
+account-call w (step_over mem) b k = account-step w mem b k
 
 compose : (h₀ t₁ a₁ h₁ t₂ a₂ h₂ : List ℕ) → h₀ ++ t₁ ≡ a₁ ++ h₁ → h₁ ++ t₂ ≡ a₂ ++ h₂ → h₀ ++ (t₁ ++ t₂) ≡ (a₁ ++ a₂) ++ h₂
 compose h₀ t₁ a₁ h₁ t₂ a₂ h₂ p q = cc (append_assoc h₀ t₁ t₂, append_assoc a₁ h₁ t₂, append_assoc a₁ a₂ h₂, p, q)

@@ -1,6 +1,6 @@
 -- Every sequence of calls that met their contracts is a history: so each theorem about histories is one about the calls.
 use mathlib.Core.List.{List, [], ◌∷◌}
-use mathlib.Core.Path.{◌≡◌, refl, sym, ap, ◌∙◌}
+use mathlib.Core.Path.{◌≡◌, refl, ap, ◌∙◌}
 use Rattle.hostiledisk.specs.Calls.{Called, Set, hd_step, StepIs}
 use Rattle.guarantees.specs.History.{Call, memory, disk, enable, reset, step, World, set_up, ran, left, run}
 use Rattle.guarantees.specs.Contracted.{SetIs, Did, Calls, none, one}

@@ -1,30 +1,23 @@
 -- 7. The disk is the fold of the accepted writes: what was last written with status 0 is what is read.
-use Prim.Native.Nat.{ℕ, zero, suc, ◌+◌, ◌-◌, ◌*◌, ◌≤◌, ◌<◌}
+use Prim.Native.Nat.{ℕ, ◌+◌, ◌*◌, ◌≤◌}
 use mathlib.Core.Bool.{Bool, true, false}
-use mathlib.Core.List.{List, [], ◌∷◌, ◌++◌}
+use mathlib.Core.List.{List, [], ◌∷◌}
 use mathlib.Core.Path.{◌≡◌, refl, sym, ap, ◌∙◌}
-use native.Mathlib.Omega.{arith}
-use lib.Dec.{leb, ltb, eqb}
+use lib.Dec.{ltb, eqb}
 use lib.ListN.{get_or, length}
 use Rattle.model.specs.Pick.{pick}
 use Rattle.model.specs.Bytes.{put, part}
-use Rattle.model.specs.Step.{Effect, nothing, stores, answers, publishes, Store, apply, shifted, disk_stores, effect, disk_of, fetched, step, step_with}
+use Rattle.model.specs.Step.{Effect, nothing, stores, answers, publishes, Store, apply, shifted, disk_stores, effect, step, step_with}
 use Rattle.model.specs.Sane.{ready}
-use Rattle.model.proofs.Lists.{Disjoint, first, after, part-put, part-put-in, part-put-other, length-put, part-part}
+use Rattle.model.proofs.Lists.{Disjoint, part-put, part-put-in, part-put-other, part-part}
 use Rattle.model.proofs.Step.{apply-append}
 use Rattle.model.proofs.Tests.{on}
 use borrow.Author.Tests.{ltb-false, eqb-true}
 use Rattle.guarantees.proofs.Open.{locked}
 use Rattle.guarantees.proofs.Reached.{Kept}
-use Rattle.words.specs.Layout.{state_words, row_at, phase_of, config_at, map_words, level, mem_len_word, start_word, sectors_word, ro_word}
-use Rattle.device.specs.Turn.{cfg_of, state_of}
-use Rattle.hostiledisk.specs.Calls.{Called, stepped, stepped_on, Going, hd_step, is_broken, long_enough}
-use Rattle.guarantees.specs.History.{Call, memory, disk, enable, reset, step as stepOver, World, ran, left as leaves, run, wanted, written, written_in, DiskNow, DiskIs}
-use Rattle.model.specs.declared.Disk.{Disk}
-use Rattle.model.specs.declared.Walk.{Walk}
-use Rattle.model.specs.declared.Place.{Place}
-use Rattle.model.specs.declared.Phase.{Phase}
-use Rattle.model.specs.declared.Phase.TheVariants.{Poll, Entry, Chain, Header, Payload, Answer, Publish, Broken}
+use Rattle.words.specs.Layout.{state_words, row_at, phase_of, config_at, level, mem_len_word, start_word, sectors_word, ro_word}
+use Rattle.hostiledisk.specs.Calls.{Called, stepped, stepped_on, hd_step, is_broken, long_enough}
+use Rattle.guarantees.specs.History.{Call, memory, disk, enable, reset, step as step_over, World, ran, left as leaves, run, wanted, written, written_in, DiskNow, DiskIs}
 
 -- a step's effect on the backing slice is its effect on this disk
 pub disk-effect : (e : Effect) (d n : ℕ) (b : List ℕ) → part d n (shifted d (disk_stores e) b) ≡ apply (disk_stores e) (part d n b)
@@ -61,7 +54,7 @@ wrote-call d n w (memory words m) k = nothing-wrote d n w.backing
 wrote-call d n w (disk start sectors ro id backing) k = nothing-wrote d n w.backing
 wrote-call d n w (enable size desc avail used chain stage start) k = nothing-wrote d n w.backing
 wrote-call d n w reset k = nothing-wrote d n w.backing
-wrote-call d n w (stepOver mem) k =
+wrote-call d n w (step_over mem) k =
     let s = w.state in
     let b = w.backing in
     let u = nothing-wrote d n b in
@@ -109,7 +102,7 @@ read_only w (memory words m) k n = refl
 read_only w (disk start sectors ro id backing) k n = refl
 read_only w (enable size desc avail used chain stage start) k n = refl
 read_only w reset k n = refl
-read_only w (stepOver mem) k n =
+read_only w (step_over mem) k n =
     let P : List Store → Type 0 = λ xs. xs ≡ [] in
     on P (ltb (length w.state) state_words) (λ a. refl)
     (λ a. on P (eqb (level w.state) 3)

@@ -1,5 +1,5 @@
 -- Set-up that is answered 0 brings the state to its level: memory registered, a disk, an enabled queue. So what is said of enabled queues is said of something.
-use Prim.Native.Nat.{ℕ, zero, suc, ◌+◌, ◌-◌, ◌*◌, ◌/◌, ◌%◌, ◌^◌, ◌≤◌, ◌<◌}
+use Prim.Native.Nat.{ℕ, ◌+◌, ◌*◌, ◌/◌, ◌^◌, ◌≤◌, ◌<◌}
 use mathlib.Core.Bool.{Bool, true, false}
 use mathlib.Core.List.{List, [], ◌∷◌}
 use mathlib.Core.Path.{◌≡◌, refl, sym, ap, ◌∙◌}
@@ -7,7 +7,7 @@ use native.Mathlib.Omega.{arith}
 use lib.Dec.{leb, ltb, eqb}
 use lib.ListN.{get_or, length, set, length-set}
 use lib.Seq.{get_or-set_same, get_or-set_other}
-use Rattle.model.proofs.Lists.{Disjoint, after, put-below, put_in, put_one, part-put, part-put-other, length-put}
+use Rattle.model.proofs.Lists.{after, put-below, put_in, put_one, part-put, part-put-other, length-put}
 use borrow.Author.Tests.{lt-ltb, le-leb, leb-false, ltb-false, eqb-true, eqb-false, leb-true}
 use Rattle.model.specs.Pick.{pick, both}
 use Rattle.model.specs.Bytes.{put, part, word}
@@ -16,9 +16,9 @@ use Rattle.model.proofs.Words.{word_below}
 use Rattle.model.specs.Memory.{Region, regions, sound, locate, memory_code, regions_max}
 use Rattle.model.specs.Ring.{areas, placed, queue_size_ok, aligned, entangled}
 use Rattle.model.specs.Sane.{sane}
-use Rattle.model.proofs.Tests.{on, both_l, told}
+use Rattle.model.proofs.Tests.{on, both_l}
 use Rattle.model.proofs.Memory.{locate-slice, mapped}
-use Rattle.words.specs.Layout.{state_words, row_of, row_words, row_at, phase_of, map_words, memory_ok, disk_ok, queue_ok, lent_ok, tags_ok, phase_ok, enabled_ok, level, level_word, mem_len_word, regions_word, start_word, sectors_word, ro_word, backing_len_word, id2_word, size_word, regions_from}
+use Rattle.words.specs.Layout.{state_words, row_of, row_words, map_words, memory_ok, disk_ok, queue_ok, lent_ok, tags_ok, phase_ok, enabled_ok, level, level_word, mem_len_word, regions_word, start_word, sectors_word, ro_word, backing_len_word, id2_word, size_word, regions_from}
 use Rattle.hostiledisk.specs.Calls.{Set, memory_set, hd_memory, flag, disk_set, hd_disk, queue_words, queue_set, enabled_with, hd_enable_at}
 use Rattle.hostiledisk.proofs.Laws.{memory-ok, level-two}
 use Rattle.guarantees.proofs.Good.{both_true}
@@ -29,7 +29,6 @@ use Rattle.model.specs.declared.Found.TheVariants.{At, Nothing}
 use Rattle.model.specs.declared.Areas.{Areas}
 use Rattle.model.specs.declared.Areas.TheVariants.{Refused, Placed}
 use Rattle.model.specs.declared.Queue.{Queue}
-use Rattle.model.specs.declared.Phase.TheVariants.{Poll}
 
 -- areas that were placed: a good size, and inside the slice
 pub record Inside (m : ℕ) (q : Queue) : Type 0 where

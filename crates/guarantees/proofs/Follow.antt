@@ -1,25 +1,22 @@
 -- The calls follow the model: over any memories, hd_step after hd_step leaves and answers what the model's steps do. So what is proved of the
 -- model's steps (whole requests, in the crate `requests`) holds of the calls.
-use Prim.Native.Nat.{ℕ, zero, suc, ◌+◌, ◌-◌, ◌*◌, ◌≤◌, ◌<◌}
-use mathlib.Core.Bool.{Bool, true, false}
+use Prim.Native.Nat.{ℕ, zero, suc, ◌*◌, ◌≤◌, ◌<◌}
+use mathlib.Core.Bool.{true, false}
 use mathlib.Core.List.{List, [], ◌∷◌, ◌++◌}
 use mathlib.Core.Path.{◌≡◌, refl, sym, ap, ◌∙◌}
 use native.Mathlib.Omega.{arith}
-use lib.Dec.{leb, ltb, eqb}
 use lib.ListN.{get_or, length}
 use borrow.Author.Tests.{le-ltb, le-leb, eq-eqb}
-use Rattle.model.specs.Pick.{pick, both}
-use Rattle.model.specs.Bytes.{put, part}
+use Rattle.model.specs.Bytes.{put}
 use Rattle.model.specs.Chain.{desc_at, tested, held, keeps}
-use Rattle.model.specs.Step.{Cfg, State, Out, step, step_with, fetched, next, chained, measured, staged, effect, counted, ends, left, shifted, disk_stores, code_of, code_after, mem_stores, apply, want, nowhere}
+use Rattle.model.specs.Step.{Cfg, State, Out, step, step_with, fetched, next, chained, measured, staged, effect, counted, ends, left, shifted, disk_stores, code_of, code_after, mem_stores, apply}
 use Rattle.model.proofs.Tests.{on}
 use Rattle.model.proofs.Lists.{below, length-put}
-use Rattle.words.specs.Layout.{state_words, row_at, phase_of, config_at, map_words, saved, level, mem_len_word, start_word, sectors_word, ro_word, backing_len_word, id0_word, id1_word, id2_word, size_word, desc_area_word, avail_area_word, used_area_word, chain_len_word, stage_len_word, taken_word}
+use Rattle.words.specs.Layout.{state_words, row_at, phase_of, config_at, saved, level, mem_len_word, start_word, sectors_word, ro_word, backing_len_word, id0_word, id1_word, id2_word, size_word, desc_area_word, avail_area_word, used_area_word, chain_len_word, stage_len_word, taken_word}
 use Rattle.words.proofs.Saved.{phase-saved, taken-saved, answered-saved, descs-saved, others-saved, length-saved}
-use Rattle.device.specs.Turn.{cfg_of, state_of}
-use Rattle.device.specs.declared.Config.{Config}
-use Rattle.hostiledisk.specs.Calls.{Called, told, seen_of, shown, shown_more, status_words, hd_status, hd_step, untouched, is_broken, long_enough, stepped, stepped_on, Going}
-use Rattle.guarantees.specs.History.{Call, step as stepOver, World, ran, left as leaves, run, steps}
+use Rattle.device.specs.Turn.{state_of}
+use Rattle.hostiledisk.specs.Calls.{Called, told, seen_of, shown, shown_more, status_words, hd_status, hd_step, is_broken, long_enough, stepped, stepped_on, Going}
+use Rattle.guarantees.specs.History.{step as step_over, World, ran, left as leaves, run, steps}
 use Rattle.guarantees.specs.Good.{Made}
 use Rattle.guarantees.specs.Follow.{Matches, model, found}
 use Rattle.requests.specs.Guest.{again, after}
@@ -165,7 +162,7 @@ broken-model c t a n reason head count at mem backing chain stage = refl
 
 module _ (c : Cfg) (n : ℕ) (w : World) (t a d : ℕ) (mem backing chain stage : List ℕ) (b : (i : ℕ) → get_or mem i 0 < 256) (l : length mem ≡ n) where
   goes-beside : (p : Phase) → Matches c n w (state_of t a d p) backing chain stage → is_broken p ≡ false
-      → Beside c n (ran w (stepOver mem)) (step c (state_of t a d p) mem backing chain stage)
+      → Beside c n (ran w (step_over mem)) (step c (state_of t a d p) mem backing chain stage)
   unfolding ran
   goes-beside p m nb =
       let q : is_broken (phase_of (row_at w.state)) ≡ false = rw m.phase-is nb in
@@ -173,7 +170,7 @@ module _ (c : Cfg) (n : ℕ) (w : World) (t a d : ℕ) (mem backing chain stage 
       (matches-stepped c n w (state_of t a d p) mem backing chain stage b l m q)
 
   broken-beside : (reason head count at : ℕ) → Matches c n w (state_of t a d (Broken reason head count at)) backing chain stage
-      → Beside c n (ran w (stepOver mem)) (step c (state_of t a d (Broken reason head count at)) mem backing chain stage)
+      → Beside c n (ran w (step_over mem)) (step c (state_of t a d (Broken reason head count at)) mem backing chain stage)
   unfolding ran
   broken-beside reason head count at m =
       rw (
@@ -182,7 +179,7 @@ module _ (c : Cfg) (n : ℕ) (w : World) (t a d : ℕ) (mem backing chain stage 
       )
       (record { code_is = refl; mem_is = refl; after = m })
 
-  pub beside : (p : Phase) → Matches c n w (state_of t a d p) backing chain stage → Beside c n (ran w (stepOver mem)) (step c (state_of t a d p) mem backing chain stage)
+  pub beside : (p : Phase) → Matches c n w (state_of t a d p) backing chain stage → Beside c n (ran w (step_over mem)) (step c (state_of t a d p) mem backing chain stage)
   unfolding is_broken
   beside Poll m = goes-beside Poll m refl
   beside Entry m = goes-beside Entry m refl
@@ -205,7 +202,7 @@ unfolding run steps model Memories
 follows-model c n w o [] h m = m
 follows-model c n w o (x ∷ ms) h m =
     let r = beside c n w o.state.taken o.state.answered o.state.descs x o.backing o.chain o.stage h.0 h.1 o.state.phase m in
-    follows-model c n (leaves (ran w (stepOver x))) (step c o.state x o.backing o.chain o.stage) ms h.2 r.after
+    follows-model c n (leaves (ran w (step_over x))) (step c o.state x o.backing o.chain o.stage) ms h.2 r.after
 
 after-model : (c : Cfg) (g : ℕ → List ℕ → List ℕ) (i n : ℕ) (o : Out) → after c g i n o ≡ model c o (found c g i n o)
 unfolding after again model found

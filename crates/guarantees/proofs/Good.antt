@@ -1,28 +1,22 @@
 -- A good state passes every test, and a step leaves a good state: the tests never fail on states that set-up and steps make.
-use Prim.Native.Nat.{ℕ, zero, suc, ◌+◌, ◌-◌, ◌*◌, ◌%◌, ◌^◌, ◌≤◌, ◌<◌, min}
+use Prim.Native.Nat.{ℕ, zero, suc, ◌+◌, ◌-◌, ◌*◌, ◌≤◌, ◌<◌}
 use mathlib.Core.Bool.{Bool, true, false}
-use mathlib.Core.List.{List, [], ◌∷◌, ◌++◌}
-use mathlib.Core.Path.{◌≡◌, refl, sym, ap, ◌∙◌}
+use mathlib.Core.List.{List, [], ◌∷◌}
+use mathlib.Core.Path.{◌≡◌, refl}
 use native.Mathlib.Omega.{arith}
 use native.Mathlib.Nat.{add-zero}
-use lib.Dec.{leb, ltb, eqb}
-use lib.ListN.{get_or, length}
-use borrow.Author.Tests.{ltb-true, ltb-false, leb-true, leb-false, eqb-true, eqb-false, lt-ltb, le-leb, eq-eqb}
-use Rattle.model.specs.Pick.{pick, both}
-use Rattle.model.specs.Bytes.{put, part, word}
-use Rattle.model.specs.Memory.{Region, sound, locate}
-use Rattle.model.specs.Ring.{polled, headed, pending, fresh}
-use Rattle.model.specs.Chain.{desc_at, tested_by, tested, tally, held, complete, described, keeps}
-use Rattle.model.specs.Request.{fits, in_ok, out_ok, exactly, verdict, decided}
-use Rattle.model.specs.Step.{Span, left, lacks, ends, onward, gathered, paid, spans, writables}
-use Rattle.model.specs.Sane.{walk_ok, full_ok, job_ok, sane, inside, all_inside, place_is_ok, ready}
-use Rattle.model.proofs.Tests.{told, on, both_l, both_r, both-split}
-use Rattle.model.proofs.Memory.{InOne, Within, here, later, in-slice, locate-in}
+use lib.Dec.{leb, ltb}
+use lib.ListN.{get_or}
+use borrow.Author.Tests.{lt-ltb, le-leb}
+use Rattle.model.specs.Pick.{both}
+use Rattle.model.specs.Memory.{Region, sound}
+use Rattle.model.specs.Step.{left, spans, writables}
+use Rattle.model.specs.Sane.{walk_ok, full_ok, sane, inside, all_inside, place_is_ok, ready}
+use Rattle.model.proofs.Memory.{InOne, here, later, in-slice}
 use Rattle.model.proofs.Sane.{inside-turn, inside-end}
 use Rattle.guarantees.specs.Good.{before, Spot, WalkGood, Next, Good}
 use Rattle.model.specs.declared.Walk.{Walk}
 use Rattle.model.specs.declared.Place.{Place}
-use Rattle.model.specs.declared.Job.{Job}
 use Rattle.model.specs.declared.Phase.{Phase}
 use Rattle.model.specs.declared.Phase.TheVariants.{Poll, Entry, Chain, Header, Payload, Answer, Publish, Broken}
 

@@ -1,6 +1,6 @@
 -- DEV-13, what is held where: the words of state are as many for every queue, and a step changes thirteen of them; what grows with the queue is chain
 -- memory, two words for each descriptor that a chain may have, and enabling refuses less.
-use Prim.Native.Nat.{ℕ, ◌+◌, ◌*◌, ◌≤◌, ◌<◌}
+use Prim.Native.Nat.{ℕ, ◌*◌, ◌≤◌, ◌<◌}
 use mathlib.Core.List.{List, [], ◌∷◌}
 use mathlib.Core.Path.{◌≡◌, refl}
 use native.Mathlib.Omega.{arith}

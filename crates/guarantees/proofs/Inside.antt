@@ -1,21 +1,19 @@
 -- 2 and 3, the other half: on a queue that set-up and steps made, the range that a step wants, and each range that it may write, lies inside one registered region.
-use Prim.Native.Nat.{ℕ, zero, suc, ◌+◌, ◌-◌, ◌*◌, ◌%◌, ◌≤◌, ◌<◌, min}
-use mathlib.Core.Bool.{Bool, true, false}
-use mathlib.Core.List.{List, [], ◌∷◌, ◌++◌}
-use mathlib.Core.Path.{◌≡◌, refl, sym, ap, ◌∙◌}
+use Prim.Native.Nat.{ℕ, zero, suc, ◌+◌, ◌-◌, ◌*◌, ◌%◌, ◌≤◌, ◌<◌}
+use mathlib.Core.List.{List, [], ◌∷◌}
+use mathlib.Core.Path.{◌≡◌, refl}
 use native.Mathlib.Omega.{arith}
 use native.Mathlib.Nat.{mod-lt}
-use lib.ListN.{get_or, length}
+use lib.ListN.{get_or}
 use Rattle.model.specs.Memory.{Region, regions}
-use Rattle.model.specs.Step.{Cfg, Span, want, left, lacks, spans, writables, buffer, used_at}
+use Rattle.model.specs.Step.{Cfg, Span, want, left, lacks, spans, used_at}
 use Rattle.model.proofs.Memory.{InOne, Within, here, later}
 use Rattle.model.proofs.Step.{spans-turn, spans-end}
 use Rattle.words.specs.Layout.{row_at, phase_of, config_at, map_words, level, sectors_word, taken_word, answered_word}
 use Rattle.device.specs.Turn.{cfg_of}
 use Rattle.hostiledisk.proofs.Laws.{level-three}
 use Rattle.guarantees.specs.History.{wanted, touched}
-use Rattle.guarantees.specs.Good.{Spot, WalkGood, Next, Good, Area, Made}
-use Rattle.guarantees.proofs.Good.{spot-some}
+use Rattle.guarantees.specs.Good.{Spot, Good, Area, Made}
 use Rattle.model.specs.declared.Queue.{Queue}
 use Rattle.model.specs.declared.Phase.{Phase}
 use Rattle.model.specs.declared.Phase.TheVariants.{Poll, Entry, Chain, Header, Payload, Answer, Publish, Broken}

@@ -1,23 +1,23 @@
 -- A step of a good state leaves a good state, whatever bytes it fetched.
-use Prim.Native.Nat.{ℕ, zero, suc, ◌+◌, ◌-◌, ◌*◌, ◌%◌, ◌^◌, ◌≤◌, ◌<◌, min}
+use Prim.Native.Nat.{ℕ, zero, suc, ◌+◌, ◌-◌, ◌*◌, ◌%◌, ◌≤◌, ◌<◌}
 use mathlib.Core.Bool.{Bool, true, false}
-use mathlib.Core.List.{List, [], ◌∷◌, ◌++◌}
+use mathlib.Core.List.{List, [], ◌∷◌}
 use mathlib.Core.Path.{◌≡◌, refl, sym, ap, ◌∙◌}
 use native.Mathlib.Omega.{arith}
 use native.Mathlib.Nat.{add-zero}
 use lib.Dec.{leb, ltb, eqb}
 use lib.ListN.{get_or, length, length-take, length-drop, get_or-eq_default}
 use borrow.Author.Tests.{ltb-true, ltb-false, leb-true, leb-false, eqb-true, eqb-false, eq-eqb, ne_eqb, lt-ltb}
-use Rattle.model.specs.Pick.{pick, both}
+use Rattle.model.specs.Pick.{both}
 use Rattle.model.specs.Bytes.{put, part, word}
 use Rattle.model.specs.Memory.{Region, locate}
-use Rattle.model.specs.Ring.{polled, headed, pending, fresh}
+use Rattle.model.specs.Ring.{polled, headed, pending}
 use Rattle.model.specs.Chain.{desc_at, tested_by, tested, tally, held, complete, described, keeps}
 use Rattle.model.specs.Request.{fits, in_ok, out_ok, exactly, verdict, decided}
 use Rattle.model.specs.Step.{Cfg, left, lacks, ends, onward, gathered, paid, next, chained, fetched, want}
 use Rattle.device.specs.Turn.{state_of}
 use Rattle.model.specs.Sane.{job_ok, refused_at}
-use Rattle.model.proofs.Tests.{told, on, both_l, both_r, both-split}
+use Rattle.model.proofs.Tests.{on, both_l, both_r}
 use Rattle.model.proofs.Lists.{put-below, put_in, get_d_part}
 use Rattle.model.proofs.Memory.{locate-in}
 use Rattle.model.proofs.Chain.{bad-reason, tally-same}
@@ -33,7 +33,6 @@ use Rattle.model.specs.declared.Disk.{Disk}
 use Rattle.model.specs.declared.Walk.{Walk}
 use Rattle.model.specs.declared.Place.{Place}
 use Rattle.model.specs.declared.Job.{Job}
-use Rattle.model.specs.declared.Job.TheVariants.{Failed, Unsupported, Done, Read, Write, Identity}
 use Rattle.model.specs.declared.Phase.{Phase}
 use Rattle.model.specs.declared.Phase.TheVariants.{Poll, Entry, Chain, Header, Payload, Answer, Publish, Broken}
 

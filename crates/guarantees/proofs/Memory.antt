@@ -1,11 +1,11 @@
 -- 2, 3 and 4: what a step reads of guest memory, what it writes of it, and that a refusal changes nothing. No word of the state is assumed to be anything.
-use Prim.Native.Nat.{ℕ, zero, suc, ◌+◌, ◌-◌, ◌*◌, ◌%◌, ◌≤◌, ◌<◌, min}
+use Prim.Native.Nat.{ℕ, zero, suc, ◌+◌, ◌-◌, ◌*◌, ◌≤◌, ◌<◌}
 use mathlib.Core.Bool.{Bool, true, false}
 use mathlib.Core.List.{List, [], ◌∷◌, ◌++◌}
-use mathlib.Core.Path.{◌≡◌, refl, sym, ap, ◌∙◌}
+use mathlib.Core.Path.{◌≡◌, refl, ap, ◌∙◌}
 use native.Mathlib.Omega.{arith}
 use native.Mathlib.Nat.{mod-lt, add-zero}
-use lib.Dec.{leb, ltb, eqb}
+use lib.Dec.{ltb, eqb}
 use lib.ListN.{get_or, length, take, drop, length-take, length-append}
 use Rattle.model.specs.Pick.{pick}
 use Rattle.model.specs.Bytes.{put, part, bytes}
@@ -13,13 +13,12 @@ use Rattle.model.specs.Sane.{ready}
 use Rattle.model.specs.Request.{status, reported}
 use Rattle.model.specs.Ring.{plus_one}
 use borrow.Author.Tests.{le-ltb, eq-eqb}
-use Rattle.model.specs.Step.{Effect, nothing, stores, answers, publishes, Span, Store, apply, scatter, spans, writables, buffer, handed, status_at, used_at, answer_stores, mem_stores, effect, disk_of, step, step_with, fetched, want, left, lacks, code_of, code_after, ends, next, Cfg}
+use Rattle.model.specs.Step.{Effect, nothing, stores, answers, publishes, Span, Store, apply, scatter, spans, writables, handed, status_at, used_at, answer_stores, mem_stores, effect, disk_of, step, step_with, fetched, want, left, code_of, code_after, ends, next, Cfg}
 use Rattle.model.proofs.Lists.{Apart, below, above, part-cong, put-apart}
-use Rattle.model.proofs.Step.{spans-turn, apply-append}
+use Rattle.model.proofs.Step.{spans-turn}
 use Rattle.model.proofs.Words.{length-bytes}
-use Rattle.words.specs.Layout.{state_words, row_at, phase_of, level, config_at, map_words, saved, mem_len_word, sectors_word, size_word, taken_word, answered_word, descs_word}
+use Rattle.words.specs.Layout.{state_words, row_at, phase_of, level, config_at, map_words, mem_len_word, sectors_word, size_word, taken_word, answered_word, descs_word}
 use Rattle.device.specs.Turn.{Fit, cfg_of, state_of}
-use Rattle.device.specs.Fit.{HeaderFit, PayloadFit}
 use Rattle.device.proofs.Laws.{header-fit, payload-fit, answer-fit}
 use Rattle.hostiledisk.specs.Calls.{Called, untouched, is_broken, long_enough, stepped, stepped_on, Going, hd_step}
 use Rattle.hostiledisk.proofs.Laws.{fit_of}

@@ -1,12 +1,10 @@
 -- A payload is fetched only for a disk that is not read-only, so nothing else is ever stored.
-use Prim.Native.Nat.{ℕ, ◌+◌, ◌-◌, ◌%◌, ◌<◌}
-use mathlib.Core.Bool.{Bool, true, false}
-use mathlib.Core.List.{List, [], ◌∷◌, ◌++◌}
+use Prim.Native.Nat.{ℕ, ◌+◌, ◌-◌}
+use mathlib.Core.List.{List, []}
 use mathlib.Core.Path.{◌≡◌, refl}
 use lib.Dec.{leb, ltb, eqb}
-use lib.ListN.{get_or}
 use borrow.Author.Tests.{eqb-true}
-use Rattle.model.specs.Pick.{pick, both}
+use Rattle.model.specs.Pick.{both}
 use Rattle.model.specs.Bytes.{put, word}
 use Rattle.model.specs.Ring.{polled, headed, pending}
 use Rattle.model.specs.Chain.{desc_at, tested, tally, complete, described}
@@ -21,7 +19,6 @@ use Rattle.model.specs.declared.Disk.{Disk}
 use Rattle.model.specs.declared.Walk.{Walk}
 use Rattle.model.specs.declared.Place.{Place}
 use Rattle.model.specs.declared.Job.{Job}
-use Rattle.model.specs.declared.Job.TheVariants.{Failed, Unsupported, Done, Read, Write, Identity}
 use Rattle.model.specs.declared.Phase.{Phase}
 use Rattle.model.specs.declared.Phase.TheVariants.{Poll, Entry, Chain, Header, Payload, Answer, Publish, Broken}
 

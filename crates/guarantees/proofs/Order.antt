@@ -1,5 +1,5 @@
 -- 11 (counters) and 12 (order): both counters count the answers modulo 2^16, and used idx is published only after the entry that it covers was written.
-use Prim.Native.Nat.{ℕ, zero, suc, ◌+◌, ◌-◌, ◌*◌, ◌%◌, ◌≤◌, ◌<◌}
+use Prim.Native.Nat.{ℕ, ◌+◌, ◌%◌, ◌≤◌, ◌<◌}
 use mathlib.Core.Bool.{Bool, true, false}
 use mathlib.Core.List.{List, [], ◌∷◌, ◌++◌}
 use mathlib.Core.Path.{◌≡◌, refl, sym, ap, ◌∙◌}
@@ -7,7 +7,7 @@ use native.Mathlib.Omega.{arith}
 use native.Mathlib.Nat.{mod-lt}
 use lib.Dec.{leb, ltb, eqb}
 use lib.ListN.{get_or, length, length-append}
-use borrow.Author.Tests.{ne_eqb, eqb-true, eqb-false}
+use borrow.Author.Tests.{ne_eqb}
 use Rattle.model.specs.Pick.{pick}
 use Rattle.model.specs.Bytes.{put, part, word, bytes}
 use Rattle.model.specs.Ring.{polled, headed, pending, plus_one}
@@ -18,19 +18,18 @@ use Rattle.model.proofs.Tests.{on}
 use Rattle.model.proofs.Lists.{length-put, part-put}
 use Rattle.model.proofs.Words.{length-bytes}
 use Rattle.model.proofs.Step.{apply-append, length-apply}
-use Rattle.words.specs.Layout.{state_words, row_at, phase_of, config_at, map_words, saved, level, taken_word, answered_word, descs_word}
+use Rattle.words.specs.Layout.{state_words, row_at, phase_of, config_at, map_words, taken_word, answered_word, descs_word}
 use Rattle.words.proofs.Saved.{phase-saved, taken-saved, answered-saved}
 use Rattle.device.specs.Turn.{cfg_of, state_of}
 use Rattle.hostiledisk.specs.Calls.{Called, stepped, stepped_on, Going, hd_step}
 use Rattle.hostiledisk.proofs.Laws.{fit_of}
-use Rattle.guarantees.specs.History.{Call, step as stepOver, World, ran, left as leaves, run, steps, answers_in}
+use Rattle.guarantees.specs.History.{step as step_over, World, ran, left as leaves, run, steps, answers_in}
 use Rattle.guarantees.specs.Accounts.{AfterAnswer}
 use Rattle.guarantees.proofs.Step.{by_answer}
 use Rattle.model.specs.declared.Queue.{Queue}
 use Rattle.model.specs.declared.Desc.{Desc}
 use Rattle.model.specs.declared.Tested.{Tested}
 use Rattle.model.specs.declared.Tested.TheVariants.{Bad, Next, Last}
-use Rattle.model.specs.declared.Disk.{Disk}
 use Rattle.model.specs.declared.Walk.{Walk}
 use Rattle.model.specs.declared.Place.{Place}
 use Rattle.model.specs.declared.Job.{Job}
@@ -174,7 +173,7 @@ counters-step s mem backing chain stage =
     (λ n h. let t = ne_eqb n 2 (λ z. omega arith) in record { taken_is = rw t; answered-is = rw t })
     (λ g. counted-stepped s mem backing chain stage g.words_long)
 
-counters-call : (w : World) (m : List ℕ) → Counted w.state (ran w (stepOver m))
+counters-call : (w : World) (m : List ℕ) → Counted w.state (ran w (step_over m))
 unfolding ran
 counters-call w m = counters-step w.state m w.backing w.chain w.stage
 
@@ -190,9 +189,9 @@ pub counters : (w : World) (ms : List (List ℕ)) → get_or w.state taken_word 
 unfolding run steps answers_in
 counters w [] h k = (omega arith, omega arith)
 counters w (m ∷ ms) h k =
-    let v = leaves (ran w (stepOver m)) in
+    let v = leaves (ran w (step_over m)) in
     let x = counters-call w m in
-    let b = eqb (ran w (stepOver m)).code 2 in
+    let b = eqb (ran w (step_over m)).code 2 in
     let p : get_or v.state taken_word 0 ≡ (get_or w.state taken_word 0 + pick b 1 0) % 65536 = x.taken_is ∙ more b (get_or w.state taken_word 0) h in
     let q : get_or v.state answered_word 0 ≡ (get_or w.state answered_word 0 + pick b 1 0) % 65536 = x.answered-is ∙ more b (get_or w.state answered_word 0) k in
     let r = counters v ms (omega arith) (omega arith) in

@@ -1,5 +1,5 @@
 -- Every history that begins with nothing enabled makes only good states. So on such a state no test fails: a step is never refused for its words.
-use Prim.Native.Nat.{ℕ, zero, suc, ◌+◌, ◌-◌, ◌*◌, ◌/◌, ◌%◌, ◌≤◌, ◌<◌}
+use Prim.Native.Nat.{ℕ, ◌+◌, ◌*◌, ◌/◌, ◌≤◌, ◌<◌}
 use mathlib.Core.Bool.{Bool, true, false}
 use mathlib.Core.List.{List, [], ◌∷◌, ◌++◌}
 use mathlib.Core.Path.{◌≡◌, refl, sym, ap, ◌∙◌}
@@ -7,26 +7,26 @@ use native.Mathlib.Omega.{arith}
 use lib.Dec.{leb, ltb, eqb}
 use lib.ListN.{get_or, length, set, length-set}
 use lib.Seq.{get_or-set_same, get_or-set_other}
-use borrow.Author.Tests.{ltb-false, eqb-true, eqb-false, leb-false}
+use borrow.Author.Tests.{ltb-false, eqb-true}
 use Rattle.model.specs.Pick.{pick, both}
 use Rattle.model.specs.Bytes.{put, part}
 use Rattle.model.specs.Memory.{Region, regions, locate, memory_code}
 use Rattle.model.specs.Ring.{areas, placed, queue_size_ok, aligned, entangled}
 use Rattle.model.specs.Request.{disk_code}
 use Rattle.model.specs.Sane.{ready}
-use Rattle.model.specs.Step.{Cfg, State, next, chained, measured, fetched, step, step_with, counted, effect}
+use Rattle.model.specs.Step.{next, chained, measured, fetched, step, step_with, counted, effect}
 use Rattle.model.proofs.Tests.{on}
-use Rattle.model.proofs.Lists.{Apart, below, above, Disjoint, after, put-below, put_in, put_one, length-put, part-put-other}
-use Rattle.model.proofs.Memory.{InOne, locate-in}
+use Rattle.model.proofs.Lists.{below, after, put-below, put_in, put_one, part-put-other}
+use Rattle.model.proofs.Memory.{locate-in}
 use Rattle.words.specs.Layout.{state_words, row_of, row_words, row_at, phase_of, saved, config_at, map_words, memory_ok, disk_ok, enabled_ok, level, level_word, mem_len_word, regions_word, start_word, sectors_word, ro_word, size_word, desc_area_word, avail_area_word, used_area_word, taken_word, answered_word, descs_word, regions_from}
-use Rattle.words.proofs.Saved.{phase-saved, phase-again, taken-saved, answered-saved, others-saved, length-saved}
+use Rattle.words.proofs.Saved.{phase-saved, others-saved}
 use Rattle.device.specs.Turn.{cfg_of, state_of}
-use Rattle.hostiledisk.specs.Calls.{Set, Called, told, flag, memory_set, hd_memory, hd_disk, disk_set, queue_words, queue_set, enabled_with, hd_enable_at, hd_reset, hd_step, untouched, stepped, stepped_on, Going}
+use Rattle.hostiledisk.specs.Calls.{Set, Called, memory_set, hd_memory, hd_disk, disk_set, queue_words, queue_set, enabled_with, hd_enable_at, hd_reset, hd_step, stepped, stepped_on, Going}
 use Rattle.hostiledisk.proofs.Laws.{level-three, fit_of}
-use Rattle.guarantees.specs.History.{Call, memory, disk, enable, reset, step as stepOver, World, ran, left, run, BytesNow, Bytes}
+use Rattle.guarantees.specs.History.{Call, memory, disk, enable, reset, step as step_over, World, ran, left, run, BytesNow, Bytes}
 use Rattle.guarantees.specs.Good.{Good, Open, Area, Made}
 use Rattle.guarantees.proofs.Step.{by-step}
-use Rattle.guarantees.proofs.Keeps.{keeps-next, keeps-publish}
+use Rattle.guarantees.proofs.Keeps.{keeps-next}
 use Rattle.guarantees.proofs.Open.{keeps-open}
 use Rattle.guarantees.proofs.Good.{good-ready}
 use Rattle.model.specs.declared.Found.{Found}
@@ -238,7 +238,7 @@ kept-call w (memory words m) b k = kept_memory w.state w.chain words m k
 kept-call w (disk start sectors ro id backing) b k = kept-disk w.state w.chain start sectors ro id backing k
 kept-call w (enable size desc avail used chain stage start) b k = kept-enable w.state w.chain size desc avail used chain stage start k
 kept-call w reset b k = kept-reset w.state w.chain k
-kept-call w (stepOver mem) b k = kept_step w.state mem w.backing w.chain w.stage b k
+kept-call w (step_over mem) b k = kept_step w.state mem w.backing w.chain w.stage b k
 
 -- every history keeps it; a world in which nothing is enabled has it
 pub reached : (w : World) (cs : List Call) → Bytes cs → Kept w → Kept (run w cs)

@@ -1,8 +1,7 @@
 -- 4, set-up: a call that is refused changes nothing. What is refused is in the definitions that the contracts cite; here: a refusal leaves every word.
-use Prim.Native.Nat.{ℕ, ◌*◌, ◌≤◌, ◌<◌}
-use mathlib.Core.Bool.{Bool, true, false}
-use mathlib.Core.List.{List, [], ◌∷◌}
-use mathlib.Core.Path.{◌≡◌, refl, ap, sym, ◌∙◌}
+use Prim.Native.Nat.{ℕ, ◌*◌}
+use mathlib.Core.List.{List}
+use mathlib.Core.Path.{◌≡◌, refl}
 use lib.Dec.{leb, ltb, eqb}
 use lib.ListN.{length}
 use Rattle.model.specs.Pick.{both}

@@ -1,31 +1,28 @@
 -- A step of a queue that set-up and steps made leaves it enabled: its words pass every test again.
-use Prim.Native.Nat.{ℕ, ◌+◌, ◌-◌, ◌*◌, ◌%◌, ◌^◌, ◌≤◌, ◌<◌}
+use Prim.Native.Nat.{ℕ, ◌+◌, ◌*◌, ◌≤◌, ◌<◌}
 use mathlib.Core.Bool.{Bool, true, false}
-use mathlib.Core.List.{List, [], ◌∷◌}
-use mathlib.Core.Path.{◌≡◌, refl, sym, ap, ◌∙◌}
+use mathlib.Core.List.{List}
+use mathlib.Core.Path.{◌≡◌, refl, ap, ◌∙◌}
 use native.Mathlib.Omega.{arith}
-use native.Mathlib.Nat.{mod-lt}
 use lib.Dec.{leb, ltb, eqb}
 use lib.ListN.{get_or, length}
-use borrow.Author.Tests.{lt-ltb, le-leb, eq-eqb, ne_eqb, eqb-true, leb-false}
-use Rattle.model.specs.Pick.{pick, both}
-use Rattle.model.specs.Bytes.{part}
-use Rattle.model.specs.Memory.{Region, regions, sound}
+use borrow.Author.Tests.{lt-ltb, le-leb, leb-false}
+use Rattle.model.specs.Pick.{pick}
+use Rattle.model.specs.Memory.{Region, regions}
 use Rattle.model.specs.Ring.{queue_size_ok, plus_one}
-use Rattle.model.specs.Request.{disk_code}
 use Rattle.model.specs.Sane.{sane}
 use Rattle.model.specs.Chain.{desc_at, tested, descs_after}
 use Rattle.model.specs.Step.{Cfg, Effect, nothing, stores, answers, publishes, counted, effect, fetched, next, chained, measured, step, step_with}
 use Rattle.model.proofs.Tests.{both-split}
 use Rattle.model.proofs.Chain.{last-room}
-use Rattle.model.proofs.Lists.{Apart, below}
+use Rattle.model.proofs.Lists.{below}
 use Rattle.words.specs.Layout.{state_words, job_tag, row_of, row_at, phase_of, saved, config_at, map_words, memory_ok, disk_ok, queue_ok, lent_ok, tags_ok, phase_ok, enabled_ok, level, level_word, mem_len_word, regions_word, start_word, sectors_word, ro_word, backing_len_word, id2_word, size_word, desc_area_word, avail_area_word, used_area_word, chain_len_word, stage_len_word, taken_word, answered_word, tag_word, a_word, descs_word}
 use Rattle.words.specs.declared.Row.{Row}
 use Rattle.words.proofs.Saved.{row-saved, phase-saved, taken-saved, answered-saved, descs-saved, others-saved}
 use Rattle.device.specs.Turn.{cfg_of, state_of}
 use Rattle.hostiledisk.specs.Calls.{stepped, stepped_on, Going}
 use Rattle.hostiledisk.proofs.Laws.{level-three, fit_of}
-use Rattle.guarantees.specs.Good.{Good, Made}
+use Rattle.guarantees.specs.Good.{Made}
 use Rattle.guarantees.proofs.Good.{both_true, good-sane}
 use Rattle.guarantees.proofs.Keeps.{keeps-next}
 use Rattle.guarantees.proofs.Reached.{part-saved}

@@ -1,16 +1,15 @@
 -- One call of hd_step: it touches nothing, or it is the model's step on words that passed every test.
-use Prim.Native.Nat.{ℕ, ◌+◌, ◌-◌, ◌*◌, ◌≤◌, ◌<◌, min}
-use mathlib.Core.Bool.{Bool, true, false}
-use mathlib.Core.List.{List, [], ◌∷◌, ◌++◌}
-use mathlib.Core.Path.{◌≡◌, refl, sym, ap, ◌∙◌}
+use Prim.Native.Nat.{ℕ, ◌+◌, ◌-◌, ◌*◌, ◌≤◌}
+use mathlib.Core.Bool.{true}
+use mathlib.Core.List.{List}
+use mathlib.Core.Path.{◌≡◌, refl}
 use native.Mathlib.Omega.{arith}
-use lib.Dec.{leb, ltb, eqb}
+use lib.Dec.{ltb, eqb}
 use lib.ListN.{get_or, length, length-append, length-take, length-drop}
 use borrow.Author.Tests.{ltb-false, eqb-true}
-use Rattle.model.specs.Pick.{pick}
-use Rattle.model.specs.Bytes.{put, part}
+use Rattle.model.specs.Bytes.{part}
 use Rattle.model.specs.Sane.{sane, ready}
-use Rattle.model.specs.Step.{Effect, nothing, stores, answers, publishes, Store, shifted, disk_stores, effect, ends, left, step, step_with, fetched, want, Cfg}
+use Rattle.model.specs.Step.{Effect, nothing, stores, answers, publishes, shifted, disk_stores, effect, ends, left, step, step_with, fetched, want, Cfg}
 use Rattle.model.proofs.Tests.{on}
 use Rattle.model.proofs.Lists.{Apart, below, above, put-apart}
 use Rattle.model.proofs.Sane.{payload-ok}

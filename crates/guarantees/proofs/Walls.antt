@@ -1,21 +1,21 @@
 -- 8, 9 and 10: the walls between disks that share a backing slice. No word of the state is assumed to be anything.
-use Prim.Native.Nat.{ℕ, zero, suc, ◌+◌, ◌-◌, ◌*◌, ◌≤◌, ◌<◌}
+use Prim.Native.Nat.{ℕ, zero, suc, ◌+◌, ◌*◌, ◌≤◌, ◌<◌}
 use mathlib.Core.Bool.{Bool, true, false}
-use mathlib.Core.List.{List, [], ◌∷◌, ◌++◌}
+use mathlib.Core.List.{List, [], ◌∷◌}
 use mathlib.Core.Path.{◌≡◌, refl, sym, ap, ◌∙◌}
 use native.Mathlib.Omega.{arith}
 use lib.Dec.{leb, ltb, eqb}
 use lib.ListN.{get_or, length}
-use borrow.Author.Tests.{ltb-true, ltb-false, leb-true, leb-false, eqb-true, eqb-false}
+use borrow.Author.Tests.{eq-eqb, ltb-true, ltb-false, leb-true, leb-false, eqb-true, eqb-false}
 use Rattle.model.specs.Pick.{pick}
-use Rattle.model.specs.Bytes.{put, part}
+use Rattle.model.specs.Bytes.{put}
 use Rattle.model.specs.Sane.{ready}
 use Rattle.model.specs.Step.{Effect, nothing, stores, answers, publishes, shifted, disk_stores, effect, disk_of, step, step_with, fetched}
 use Rattle.model.proofs.Lists.{Apart, below, above, length-put, part-cong}
 use Rattle.words.specs.Layout.{state_words, row_at, phase_of, level, config_at, map_words, mem_len_word, start_word, sectors_word, taken_word, answered_word, descs_word}
 use Rattle.device.specs.Turn.{cfg_of, state_of}
 use Rattle.hostiledisk.specs.Calls.{Called, untouched, is_broken, long_enough, stepped, stepped_on, hd_step}
-use Rattle.guarantees.specs.History.{Call, memory, disk, enable, reset, step as stepOver, World, ran, left, run, View, view, views, OutsideNow, Outside, WithinNow, Within, Alike, Lent, House, Turn, world_of, lent_by, act, acts, calls_of, views_of, Apartments}
+use Rattle.guarantees.specs.History.{Call, memory, disk, enable, reset, step as step_over, World, ran, left, run, View, view, views, OutsideNow, Outside, WithinNow, Within, Alike, House, Turn, world_of, act, acts, calls_of, views_of, Apartments}
 use Rattle.guarantees.proofs.Step.{by-step, wall-step}
 
 -- 8. Bytes of the backing slice outside this disk's range never change.
@@ -25,7 +25,7 @@ wall-call i w (memory words m) o = refl
 wall-call i w (disk start sectors ro id backing) o = refl
 wall-call i w (enable size desc avail used chain stage start) o = refl
 wall-call i w reset o = refl
-wall-call i w (stepOver mem) o = wall-step w.state mem w.backing w.chain w.stage i o
+wall-call i w (step_over mem) o = wall-step w.state mem w.backing w.chain w.stage i o
 
 pub walls-disk : (i : ℕ) (w : World) (cs : List Call) → Outside i w cs → get_or (run w cs).backing i 0 ≡ get_or w.backing i 0
 unfolding run Outside
@@ -107,7 +107,7 @@ same-call In w₁ w₂ (disk start sectors ro id backing) a o =
 same-call In w₁ w₂ (enable size desc avail used chain stage start) a o =
     record { seen = rw (a.same-state, a.same-chain, a.same-stage); long = a.same_length; inside = a.same-inside }
 same-call In w₁ w₂ reset a o = record { seen = rw (a.same-state, a.same-chain, a.same-stage); long = a.same_length; inside = a.same-inside }
-same-call In w₁ w₂ (stepOver mem) a o =
+same-call In w₁ w₂ (step_over mem) a o =
     rw (← a.same-state, ← a.same-chain, ← a.same-stage)
     (same_step In w₁.state mem w₁.backing w₂.backing w₁.chain w₁.stage a.same_length a.same-inside o)
 
@@ -139,7 +139,7 @@ outside_of In w (memory words m) i n o = tt
 outside_of In w (disk start sectors ro id backing) i n o = tt
 outside_of In w (enable size desc avail used chain stage start) i n o = tt
 outside_of In w reset i n o = tt
-outside_of In w (stepOver mem) i n o = go (ltb i (get_or w.state start_word 0)) refl (leb (get_or w.state start_word 0 + 512 * get_or w.state sectors_word 0) i) refl
+outside_of In w (step_over mem) i n o = go (ltb i (get_or w.state start_word 0)) refl (leb (get_or w.state start_word 0 + 512 * get_or w.state sectors_word 0) i) refl
   where
     go : (a : Bool) → ltb i (get_or w.state start_word 0) ≡ a → (b : Bool) → leb (get_or w.state start_word 0 + 512 * get_or w.state sectors_word 0) i ≡ b
         → Apart i (get_or w.state start_word 0) (512 * get_or w.state sectors_word 0)
@@ -161,14 +161,14 @@ length-call w (memory words m) = refl
 length-call w (disk start sectors ro id backing) = refl
 length-call w (enable size desc avail used chain stage start) = refl
 length-call w reset = refl
-length-call w (stepOver mem) =
+length-call w (step_over mem) =
     by-step (λ (o : Called). length o.backing ≡ length w.backing) w.state mem w.backing w.chain w.stage (λ n. refl)
     (λ g. length-stepped w.state mem w.backing w.chain w.stage)
 
 -- what a call leaves of device k: its own call, or another's
 act-own : (h : House) (x : Turn) (k : ℕ) → eqb x.who k ≡ true → world_of (act h x) k ≡ left (ran (world_of h k) x.what)
 unfolding act
-act-own h x k t = let e : x.who ≡ k = eqb-true x.who k t in rw (t, e)
+act-own h x k t = let e : x.who ≡ k = eqb-true x.who k t in rw (e, eq-eqb k k refl)
 
 act-other : (h : House) (x : Turn) (k : ℕ) → eqb x.who k ≡ false
     → world_of (act h x) k

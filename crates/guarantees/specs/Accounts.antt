@@ -1,8 +1,7 @@
 -- Accounts: which heads a history takes, answers and drops.
-use Rattle.std.specs.Prelude.{ℕ, Bool, true, false, List, [], ◌∷◌, ◌++◌, map, ltb, eqb, length, ◌≡◌}
-use Rattle.model.specs.Pick.{pick, both}
+use Rattle.std.specs.Prelude.{ℕ, List, [], ◌∷◌, ◌++◌, map, ltb, eqb, length, ◌≡◌}
+use Rattle.model.specs.Pick.{pick}
 use Rattle.words.specs.Layout.{state_words, row_at, phase_of, level}
-use Rattle.hostiledisk.specs.Calls.{Called}
 use Rattle.guarantees.specs.History.{Call, memory, disk, enable, reset, step, World, ran, left}
 use Rattle.model.specs.declared.Walk.{Walk}
 use Rattle.model.specs.declared.Job.{Job}

@@ -1,5 +1,5 @@
 -- From the contracts to the theorems: a call of the compiled interface met its contract, and a sequence of such calls.
-use Rattle.std.specs.Prelude.{ℕ, List, [], ◌∷◌, ◌≡◌}
+use Rattle.std.specs.Prelude.{List, [], ◌∷◌, ◌≡◌}
 use Rattle.hostiledisk.specs.Calls.{Set, Called, hd_memory, hd_disk, hd_enable_at, hd_reset, hd_step, StepIs}
 use Rattle.guarantees.specs.History.{Call, memory, disk, enable, reset, step, World, left}
 

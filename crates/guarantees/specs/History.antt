@@ -1,5 +1,5 @@
 -- Histories: any sequence of calls, refused ones too, with guest memory replaced at will before each step.
-use Rattle.std.specs.Prelude.{ℕ, ◌+◌, ◌*◌, ◌≤◌, ◌<◌, List, [], ◌∷◌, ◌++◌, ◌≡◌, get_or, length, eqb, ltb, Bool, true, false}
+use Rattle.std.specs.Prelude.{ℕ, ◌+◌, ◌*◌, ◌≤◌, ◌<◌, List, [], ◌∷◌, ◌++◌, ◌≡◌, get_or, length, eqb, ltb}
 use Rattle.model.specs.Pick.{pick}
 use Rattle.model.proofs.Lists.{Apart}
 use Rattle.model.specs.Step.{Span, want, used_at, writables, Store, disk_stores, effect}
