@@ -1,7 +1,7 @@
 # Sourced by bench/run and bench/native, after tools/host.sh: the toolchain's folder, and its compiler for C.
 
-kit=${RATTLE_HOME:-$(there rt && dirname "$(dirname "$(readlink -f "$(command -v rt)")")")}
-kit_clang=$kit/on/$(uname -m)/toolchain/bin/clang
+kit=$(there rt && dirname "$(dirname "$(readlink -f "$(command -v rt)")")")
+kit_clang=$kit/toolchain/bin/clang
 
 # "${c_cc[@]}" compiles C for this machine: the compiler that the library is compiled with, with the system's headers.
 c_compiler() {

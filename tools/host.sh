@@ -48,7 +48,7 @@ need_rust() {
 need_archive() {
     archive=${HD_ARCHIVE:-target/staticlib/libhostiledisk.a}
     if [ -z "${HD_ARCHIVE:-}" ] && there rt; then
-        rt staticlib hostiledisk || { echo "the library is not proved" >&2; exit 2; }
+        tools/staticlib || { echo "the library is not proved" >&2; exit 2; }
     fi
-    [ -f "$archive" ] || { echo "no $archive; rt staticlib hostiledisk writes it" >&2; exit 2; }
+    [ -f "$archive" ] || { echo "no $archive; tools/staticlib writes it" >&2; exit 2; }
 }

@@ -1,4 +1,4 @@
-//! Tells where libhostiledisk.a is: in HD_ARCHIVE_DIR, or where `rt staticlib hostiledisk` writes it in this repository.
+//! Tells where libhostiledisk.a is: in HD_ARCHIVE_DIR, or where `tools/staticlib` puts it in this repository.
 
 use std::path::PathBuf;
 
@@ -11,7 +11,7 @@ fn main() {
     let archive = dir.join("libhostiledisk.a");
     println!("cargo:rerun-if-changed={}", archive.display());
     if !archive.is_file() {
-        eprintln!("no {}: set HD_ARCHIVE_DIR, or build it with rt staticlib hostiledisk", archive.display());
+        eprintln!("no {}: set HD_ARCHIVE_DIR, or build it with tools/staticlib", archive.display());
         std::process::exit(1);
     }
     println!("cargo:rustc-link-search=native={}", dir.display());

@@ -1,5 +1,5 @@
-// The C interface. No function has a `requires`: whatever the numbers, lengths and contents are, the call returns,
-// stays inside the slices and answers a code. A word is a `usize`, which is 64 bits: uint64_t in C.
+// The calls of the C interface, which `hostiledisk_c` exports. No function has a `requires`: whatever the numbers, lengths and
+// contents are, the call returns, stays inside the slices and answers a code. A word is a `usize`, which is 64 bits: uint64_t in C.
 #![tactic(auto)]
 
 ghost use Rattle.std.specs.Prelude.{◌≡◌, true, ◌≤◌, length};
@@ -29,16 +29,14 @@ pub struct Seen {
 pub const STATE_WORDS: usize = at::STATE_WORDS;
 
 // Words of state that the host lends for a device.
-#[unsafe(no_mangle)]
-pub extern "C" fn hd_state_words() -> usize
+pub fn hd_state_words() -> usize
     ensures { result ≡ state_words }
 {
     STATE_WORDS
 }
 
 // Words of chain memory for a queue of this size: two for each descriptor.
-#[unsafe(no_mangle)]
-pub extern "C" fn hd_chain_words(queue_size: usize) -> usize
+pub fn hd_chain_words(queue_size: usize) -> usize
     ensures { result ≡ chain_words queue_size }
 {
     if ring::size_ok(queue_size) {
@@ -48,15 +46,13 @@ pub extern "C" fn hd_chain_words(queue_size: usize) -> usize
 }
 
 // Bytes of staging memory.
-#[unsafe(no_mangle)]
-pub extern "C" fn hd_stage_bytes() -> usize
+pub fn hd_stage_bytes() -> usize
     ensures { result ≡ 1048576 }
 {
     1048576
 }
 
-#[unsafe(no_mangle)]
-pub extern "C" fn hd_memory(state: &mut [usize], map: &[usize], mem_len: usize) -> usize
+pub fn hd_memory(state: &mut [usize], map: &[usize], mem_len: usize) -> usize
     ensures value { result ≡ (hd_memory state.old map.now mem_len).code }
     ensures state_after { state.new ≡ (hd_memory state.old map.now mem_len).state }
 {
@@ -71,8 +67,7 @@ pub extern "C" fn hd_memory(state: &mut [usize], map: &[usize], mem_len: usize) 
     0
 }
 
-#[unsafe(no_mangle)]
-pub extern "C" fn hd_disk(
+pub fn hd_disk(
     state: &mut [usize],
     start: usize,
     sectors: usize,
@@ -104,8 +99,7 @@ pub extern "C" fn hd_disk(
     0
 }
 
-#[unsafe(no_mangle)]
-pub extern "C" fn hd_enable_at(
+pub fn hd_enable_at(
     state: &mut [usize],
     size: usize,
     desc: usize,
@@ -128,8 +122,7 @@ pub extern "C" fn hd_enable_at(
     set_up::enable(state, chain_len, stage_len, start, found)
 }
 
-#[unsafe(no_mangle)]
-pub extern "C" fn hd_enable(
+pub fn hd_enable(
     state: &mut [usize],
     size: usize,
     desc: usize,
@@ -144,8 +137,7 @@ pub extern "C" fn hd_enable(
     hd_enable_at(state, size, desc, avail, used, chain_len, stage_len, 0)
 }
 
-#[unsafe(no_mangle)]
-pub extern "C" fn hd_reset(state: &mut [usize]) -> usize
+pub fn hd_reset(state: &mut [usize]) -> usize
     ensures value { result ≡ (hd_reset state.old).code }
     ensures state_after { state.new ≡ (hd_reset state.old).state }
 {
@@ -159,8 +151,7 @@ pub extern "C" fn hd_reset(state: &mut [usize]) -> usize
     0
 }
 
-#[unsafe(no_mangle)]
-pub extern "C" fn hd_status(state: &[usize], out: &mut [usize]) -> usize
+pub fn hd_status(state: &[usize], out: &mut [usize]) -> usize
     ensures value { result ≡ (hd_status state.now out.old).code }
     ensures out_after { out.new ≡ (hd_status state.now out.old).state }
 {
@@ -175,8 +166,7 @@ pub extern "C" fn hd_status(state: &[usize], out: &mut [usize]) -> usize
 }
 
 // One step of the device.
-#[unsafe(no_mangle)]
-pub extern "C" fn hd_step(
+pub fn hd_step(
     state: &mut [usize],
     mem: &mut [u8],
     backing: &mut [u8],
