@@ -3,6 +3,7 @@
 #![tactic(auto)]
 
 use driver::{Attached, Driver};
+use std::io;
 use trip::Trip;
 
 type Bytes = [u8; 65536];
@@ -11,33 +12,36 @@ type Stage = [u8; 1048576];
 
 const MAP: [usize; 3] = [0x8000_0000, 65536, 0];
 
-fn number(n: usize) {
-    io::print_decimal(1, n as u64);
+fn number(rt: &impl Print, n: usize) -> io::Result<()> {
+    print!(rt; "{n}")
 }
 
-fn text(b: &[u8]) {
-    io::write_all(1, b);
+fn text(rt: &impl Print, b: &[u8]) -> io::Result<()> {
+    rt.write_all(b)
 }
 
 // The device of 03 §6, from byte 1,024 of its backing slice on.
-fn set_up(state: &mut [usize]) {
+fn set_up(rt: &impl Print, state: &mut [usize]) -> io::Result<()> {
     let id = b"SCRATCH-0007\0\0\0\0\0\0\0\0";
-    text(b"set-up: ");
-    number(hostiledisk::hd_memory(state, &MAP, 65536));
-    text(b" ");
-    number(hostiledisk::hd_disk(state, 1024, 64, 0, id, 65536));
-    text(b" ");
-    number(hostiledisk::hd_enable_at(
-        state,
-        8,
-        0x8000_1000,
-        0x8000_2000,
-        0x8000_3000,
-        16,
-        1048576,
-        65535,
-    ));
-    text(b"\n");
+    text(rt, b"set-up: ")?;
+    number(rt, hostiledisk::hd_memory(state, &MAP, 65536))?;
+    text(rt, b" ")?;
+    number(rt, hostiledisk::hd_disk(state, 1024, 64, 0, id, 65536))?;
+    text(rt, b" ")?;
+    number(
+        rt,
+        hostiledisk::hd_enable_at(
+            state,
+            8,
+            0x8000_1000,
+            0x8000_2000,
+            0x8000_3000,
+            16,
+            1048576,
+            65535,
+        ),
+    )?;
+    text(rt, b"\n")
 }
 
 // How many bytes of out are 0x5a, as all that were written are.
@@ -53,22 +57,22 @@ fn came_back(out: &[u8; 512]) -> usize {
     n
 }
 
-fn tell(t: Trip, out: &[u8; 512]) {
+fn tell(rt: &impl Print, t: Trip, out: &[u8; 512]) -> io::Result<()> {
     match t {
         Trip::Failed(n) => {
-            text(b"failed: ");
-            number(n);
+            text(rt, b"failed: ")?;
+            number(rt, n)?;
         }
         Trip::Both(a, b) => {
-            text(b"written: status ");
-            number(a);
-            text(b"; read: status ");
-            number(b);
-            text(b"; bytes that came back: ");
-            number(came_back(out));
+            text(rt, b"written: status ")?;
+            number(rt, a)?;
+            text(rt, b"; read: status ")?;
+            number(rt, b)?;
+            text(rt, b"; bytes that came back: ")?;
+            number(rt, came_back(out))?;
         }
     }
-    text(b"\n");
+    text(rt, b"\n")
 }
 
 // Sector 5, the header cut after its tenth byte; read back into buffers of 100, 412 and 1 bytes.
@@ -120,17 +124,17 @@ fn round(
     )
 }
 
-fn main() {
+fn main(rt: HostRuntime) -> io::Result<()> {
     let mut state = [0; hostiledisk::STATE_WORDS];
     let mut mem = [0u8; 65536];
     let mut backing = [0u8; 65536];
     let mut stage = [0u8; 1048576];
     let mut out = [0u8; 512];
-    set_up(&mut state);
+    set_up(&rt, &mut state)?;
     let a = driver::laying::attach(&MAP, 65536, 8, 0x8000_1000, 0x8000_2000, 0x8000_3000, 65535);
     let Attached::Ready(d) = a else {
-        return;
+        return Ok(());
     };
     let t = round(d, &mut state, &mut mem, &mut backing, &mut stage, &mut out);
-    tell(t, &out);
+    tell(&rt, t, &out)
 }
