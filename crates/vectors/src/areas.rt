@@ -2,22 +2,29 @@
 // nobody has laid: so reading a sector changes 510 bytes.
 use crate::guest::Bytes;
 use crate::{guest, say};
+use std::io;
 
 // How many bytes changed: of the descriptors, of the available ring, of the used ring, of the header,
 // and of the places from up to to.
-pub fn changed(mem: &Bytes, before: &Bytes, from: usize, to: usize) {
-    say::text(b", changed");
-    count(mem, before, 0x1000, 0x1080);
-    count(mem, before, 0x2000, 0x2016);
-    count(mem, before, 0x3000, 0x3046);
-    count(mem, before, 0x4000, 0x4010);
-    count(mem, before, from, to);
-    say::line();
+pub fn changed(
+    rt: &impl Print,
+    mem: &Bytes,
+    before: &Bytes,
+    from: usize,
+    to: usize,
+) -> io::Result<()> {
+    say::text(rt, b", changed")?;
+    count(rt, mem, before, 0x1000, 0x1080)?;
+    count(rt, mem, before, 0x2000, 0x2016)?;
+    count(rt, mem, before, 0x3000, 0x3046)?;
+    count(rt, mem, before, 0x4000, 0x4010)?;
+    count(rt, mem, before, from, to)?;
+    say::line(rt)
 }
 
-pub fn count(a: &Bytes, b: &Bytes, from: usize, to: usize) {
-    say::text(b" ");
-    say::number(guest::differ(a, b, from, to));
+pub fn count(rt: &impl Print, a: &Bytes, b: &Bytes, from: usize, to: usize) -> io::Result<()> {
+    say::text(rt, b" ")?;
+    say::number(rt, guest::differ(a, b, from, to))
 }
 
 // Nobody has laid anything: the descriptors, the rings, the header, and the places from up to to.
@@ -30,8 +37,8 @@ pub fn clear(mem: &mut Bytes, from: usize, to: usize) {
 }
 
 // What bytes stand from place k on.
-pub fn show(name: &[u8], mem: &Bytes, k: usize, n: usize) {
-    say::text(name);
-    say::text(b" ");
-    say::part(mem, k, n);
+pub fn show(rt: &impl Print, name: &[u8], mem: &Bytes, k: usize, n: usize) -> io::Result<()> {
+    say::text(rt, name)?;
+    say::text(rt, b" ")?;
+    say::part(rt, mem, k, n)
 }

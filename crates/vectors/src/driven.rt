@@ -4,6 +4,7 @@ use crate::guest::Bytes;
 use crate::host::Stage;
 use crate::{areas, guest, host, say};
 use driver::{Ask, Attached, Byte, Driver, Laid, Taken};
+use std::io;
 
 const MAP: [usize; 3] = [0x8000_0000, 65536, 0];
 
@@ -12,39 +13,39 @@ fn attach() -> Attached {
     driver::laying::attach(&MAP, 65536, 8, 0x8000_1000, 0x8000_2000, 0x8000_3000, 0)
 }
 
-fn status(mem: &Bytes, spots: &[usize], reads: usize, e: usize) {
+fn status(rt: &impl Print, mem: &Bytes, spots: &[usize], reads: usize, e: usize) -> io::Result<()> {
     match driver::reading::status(mem, spots, reads, e) {
-        Byte::Unread => say::text(b" no status"),
+        Byte::Unread => say::text(rt, b" no status"),
         Byte::Is(n) => {
-            say::text(b", status ");
-            say::number(n);
+            say::text(rt, b", status ")?;
+            say::number(rt, n)
         }
     }
 }
 
 // What the driver reads of the next answer.
-fn answer(d: Driver, own: &mut [usize], mem: &Bytes) {
+fn answer(rt: &impl Print, d: Driver, own: &mut [usize], mem: &Bytes) -> io::Result<()> {
     let idx = driver::reading::used_idx(d, mem);
     match driver::reading::take(d, own, mem, idx) {
-        Taken::None => say::text(b", no answer"),
+        Taken::None => say::text(rt, b", no answer"),
         Taken::Strange(n) => {
-            say::text(b", strange: ");
-            say::number(n);
+            say::text(rt, b", strange: ")?;
+            say::number(rt, n)
         }
         Taken::Answer(_, head, len) => {
-            say::text(b", head ");
-            say::number(head);
-            say::text(b", len ");
-            say::number(len);
+            say::text(rt, b", head ")?;
+            say::number(rt, head)?;
+            say::text(rt, b", len ")?;
+            say::number(rt, len)
         }
     }
 }
 
-fn data(mem: &Bytes, spots: &[usize], reads: usize, e: usize) {
+fn data(rt: &impl Print, mem: &Bytes, spots: &[usize], reads: usize, e: usize) -> io::Result<()> {
     let mut out = [0u8; 8];
     driver::reading::read(mem, spots, reads, e, &mut out);
-    say::text(b", writable bytes ");
-    say::hex(&out);
+    say::text(rt, b", writable bytes ")?;
+    say::hex(rt, &out)
 }
 
 // The rings as they are when a queue is enabled: both idx are 0.
@@ -54,22 +55,24 @@ fn rings(mem: &mut Bytes) {
 }
 
 fn served(
+    rt: &impl Print,
     d: Driver,
     own: &mut [usize],
     mem: &mut Bytes,
     read_only: usize,
     backing: &mut Bytes,
     stage: &mut Stage,
-) {
+) -> io::Result<()> {
     driver::laying::publish(d, mem);
     let mut state = [0; hostiledisk::STATE_WORDS];
     host::set_up(&mut state, read_only, 0);
-    host::run(&mut state, mem, backing, stage, false);
-    answer(d, own, mem);
+    host::run(rt, &mut state, mem, backing, stage, false)?;
+    answer(rt, d, own, mem)
 }
 
 // One request: its buffers, two words each, and its message, whose first 16 bytes become the header.
 fn request(
+    rt: &impl Print,
     ask: Ask,
     bufs: &[usize],
     message: &mut [u8],
@@ -77,10 +80,10 @@ fn request(
     mem: &mut Bytes,
     backing: &mut Bytes,
     stage: &mut Stage,
-) {
+) -> io::Result<()> {
     rings(mem);
     let Attached::Ready(d) = attach() else {
-        return;
+        return Ok(());
     };
     let mut own = [0; 8];
     let mut spots = [0; 24];
@@ -91,45 +94,48 @@ fn request(
     );
     match laid {
         Laid::Refused(n) => {
-            say::text(b"not laid, ");
-            say::number(n);
+            say::text(rt, b"not laid, ")?;
+            say::number(rt, n)?;
         }
         Laid::Head(d2, _) => {
-            served(d2, &mut own, mem, read_only, backing, stage);
+            served(rt, d2, &mut own, mem, read_only, backing, stage)?;
             let e = bufs.len() / 2;
-            status(mem, &spots, reads, e);
-            data(mem, &spots, reads, e);
+            status(rt, mem, &spots, reads, e)?;
+            data(rt, mem, &spots, reads, e)?;
         }
     }
-    say::line();
+    say::line(rt)?;
     areas::clear(mem, 0x4000, 0x7000);
+    Ok(())
 }
 
 // A request of type and sector with nothing for the disk: 16 readable bytes, and w writable ones in one buffer.
 fn joined(
+    rt: &impl Print,
     kind: usize,
     sector: usize,
     w: usize,
     mem: &mut Bytes,
     backing: &mut Bytes,
     stage: &mut Stage,
-) {
-    say::nth(b"IN|OUT|type 2||FLUSH||||GET_ID|", kind);
-    say::text(b" by the driver, sector ");
-    say::number(sector);
-    say::text(b": 16 r, ");
-    say::number(w);
-    say::text(b" w: ");
+) -> io::Result<()> {
+    say::nth(rt, b"IN|OUT|type 2||FLUSH||||GET_ID|", kind)?;
+    say::text(rt, b" by the driver, sector ")?;
+    say::number(rt, sector)?;
+    say::text(rt, b": 16 r, ")?;
+    say::number(rt, w)?;
+    say::text(rt, b" w: ")?;
     let ask = Ask {
         kind,
         sector,
         reads: 1,
     };
     let bufs = [0x8000_4000, 16, 0x8000_5000, w];
-    request(ask, &bufs, &mut [0u8; 16], 0, mem, backing, stage);
+    request(rt, ask, &bufs, &mut [0u8; 16], 0, mem, backing, stage)
 }
 
 fn out(
+    rt: &impl Print,
     name: &[u8],
     sector: usize,
     reads: usize,
@@ -138,14 +144,15 @@ fn out(
     mem: &mut Bytes,
     backing: &mut Bytes,
     stage: &mut Stage,
-) {
-    say::text(name);
+) -> io::Result<()> {
+    say::text(rt, name)?;
     let ask = Ask {
         kind: 1,
         sector,
         reads,
     };
     request(
+        rt,
         ask,
         bufs,
         &mut [0x5au8; 528],
@@ -153,24 +160,25 @@ fn out(
         mem,
         backing,
         stage,
-    );
+    )
 }
 
 fn inward(
+    rt: &impl Print,
     name: &[u8],
     sector: usize,
     bufs: &[usize],
     mem: &mut Bytes,
     backing: &mut Bytes,
     stage: &mut Stage,
-) {
-    say::text(name);
+) -> io::Result<()> {
+    say::text(rt, name)?;
     let ask = Ask {
         kind: 0,
         sector,
         reads: 1,
     };
-    request(ask, bufs, &mut [0u8; 16], 0, mem, backing, stage);
+    request(rt, ask, bufs, &mut [0u8; 16], 0, mem, backing, stage)
 }
 
 #[rattlefmt::skip]
@@ -180,37 +188,50 @@ const SEVEN: [usize; 16] = [
     0x8000_6800, 1,
 ];
 
-pub fn rows(mem: &mut Bytes, backing: &mut Bytes, stage: &mut Stage) {
+pub fn rows(
+    rt: &impl Print,
+    mem: &mut Bytes,
+    backing: &mut Bytes,
+    stage: &mut Stage,
+) -> io::Result<()> {
     let three = [0x8000_4000, 16, 0x8000_5000, 512, 0x8000_6000, 1];
     inward(
+        rt,
         b"IN by the driver, sector 3: 16 r, 512 w, 1 w: ",
         3,
         &three,
         mem,
         backing,
         stage,
-    );
-    joined(0, 63, 513, mem, backing, stage);
-    joined(0, 64, 513, mem, backing, stage);
-    joined(0, 64, 1, mem, backing, stage);
-    joined(0, 65, 1, mem, backing, stage);
-    joined(0, 0xffff_ffff_ffff_ffff, 1025, mem, backing, stage);
-    joined(8, 0, 21, mem, backing, stage);
-    joined(4, 0, 1, mem, backing, stage);
+    )?;
+    joined(rt, 0, 63, 513, mem, backing, stage)?;
+    joined(rt, 0, 64, 513, mem, backing, stage)?;
+    joined(rt, 0, 64, 1, mem, backing, stage)?;
+    joined(rt, 0, 65, 1, mem, backing, stage)?;
+    joined(rt, 0, 0xffff_ffff_ffff_ffff, 1025, mem, backing, stage)?;
+    joined(rt, 8, 0, 21, mem, backing, stage)?;
+    joined(rt, 4, 0, 1, mem, backing, stage)?;
     inward(
+        rt,
         b"IN by the driver, sector 0: 16 r and writable 512, 512, 512, 512, 512, 512, 1: ",
         0,
         &SEVEN,
         mem,
         backing,
         stage,
-    );
+    )
 }
 
 // A write, cut after the header's tenth byte; the same sector read back; and a write to a read-only disk.
-pub fn writes(mem: &mut Bytes, backing: &mut Bytes, stage: &mut Stage) {
+pub fn writes(
+    rt: &impl Print,
+    mem: &mut Bytes,
+    backing: &mut Bytes,
+    stage: &mut Stage,
+) -> io::Result<()> {
     let split = [0x8000_4000, 10, 0x8000_4100, 518, 0x8000_6000, 1];
     out(
+        rt,
         b"OUT by the driver, sector 5: 10 r, 518 r, 1 w: ",
         5,
         2,
@@ -219,10 +240,11 @@ pub fn writes(mem: &mut Bytes, backing: &mut Bytes, stage: &mut Stage) {
         mem,
         backing,
         stage,
-    );
-    joined(0, 5, 513, mem, backing, stage);
+    )?;
+    joined(rt, 0, 5, 513, mem, backing, stage)?;
     let whole = [0x8000_4000, 528, 0x8000_6000, 1];
     out(
+        rt,
         b"OUT by the driver, sector 7, read-only disk: 528 r, 1 w: ",
         7,
         1,
@@ -231,39 +253,47 @@ pub fn writes(mem: &mut Bytes, backing: &mut Bytes, stage: &mut Stage) {
         mem,
         backing,
         stage,
-    );
+    )
 }
 
 // Requests that no disk accepts, buffers that overlap each other or a ring, buffers that aren't in memory.
-pub fn refused(mem: &mut Bytes, backing: &mut Bytes, stage: &mut Stage) {
-    joined(8, 0, 20, mem, backing, stage);
-    joined(4, 0, 2, mem, backing, stage);
-    joined(2, 0, 1, mem, backing, stage);
+pub fn refused(
+    rt: &impl Print,
+    mem: &mut Bytes,
+    backing: &mut Bytes,
+    stage: &mut Stage,
+) -> io::Result<()> {
+    joined(rt, 8, 0, 20, mem, backing, stage)?;
+    joined(rt, 4, 0, 2, mem, backing, stage)?;
+    joined(rt, 2, 0, 1, mem, backing, stage)?;
     let over = [0x8000_4000, 16, 0x8000_400f, 513];
     inward(
+        rt,
         b"IN by the driver, a buffer over the header: ",
         0,
         &over,
         mem,
         backing,
         stage,
-    );
+    )?;
     let ring = [0x8000_4000, 16, 0x8000_3000, 513];
     inward(
+        rt,
         b"IN by the driver, a buffer over the used ring: ",
         0,
         &ring,
         mem,
         backing,
         stage,
-    );
+    )?;
     let past = [0x8000_4000, 16, 0x8000_fe00, 513];
     inward(
+        rt,
         b"IN by the driver, a buffer past the region: ",
         0,
         &past,
         mem,
         backing,
         stage,
-    );
+    )
 }

@@ -2,6 +2,7 @@
 // a queue of 8; and the loop that steps the device.
 use crate::guest::Bytes;
 use crate::say;
+use std::io;
 
 pub type Stage = [u8; 1048576];
 
@@ -45,56 +46,59 @@ pub fn stops(answer: usize) -> bool {
 }
 
 // What a step answered; on a line with the words of hd_status, or alone.
-fn tell(state: &[usize], answer: usize, lines: bool) {
-    say::number(answer);
+fn tell(rt: &impl Print, state: &[usize], answer: usize, lines: bool) -> io::Result<()> {
+    say::number(rt, answer)?;
     if lines {
-        say::text(b" |");
-        say_status(state);
-        say::line();
+        say::text(rt, b" |")?;
+        say_status(rt, state)?;
+        say::line(rt)?;
     }
+    Ok(())
 }
 
-pub fn say_status(state: &[usize]) {
+pub fn say_status(rt: &impl Print, state: &[usize]) -> io::Result<()> {
     let mut out = [9; 10];
     hostiledisk::hd_status(state, &mut out);
-    say::numbers(&out);
+    say::numbers(rt, &out)
 }
 
 // Steps until nothing is left to do or the queue is broken, at most 64 times.
 pub fn run(
+    rt: &impl Print,
     state: &mut [usize],
     mem: &mut Bytes,
     backing: &mut Bytes,
     stage: &mut Stage,
     lines: bool,
-) {
+) -> io::Result<()> {
     let mut chain = [0; 16];
     let mut i = 0usize;
     while i < 64 {
         let answer = hostiledisk::hd_step(state, mem, backing, &mut chain, stage);
-        tell(state, answer, lines);
+        tell(rt, state, answer, lines)?;
         if stops(answer) {
-            return;
+            return Ok(());
         }
         i += 1;
     }
+    Ok(())
 }
 
 // Is the queue broken? Then it says the reason, at which descriptor, as which of its chain, and how many the last
 // complete chain had.
-pub fn broken(state: &[usize]) -> bool {
+pub fn broken(rt: &impl Print, state: &[usize]) -> io::Result<bool> {
     let mut out = [9; 10];
     hostiledisk::hd_status(state, &mut out);
     if out[1] == 0 {
-        return false;
+        return Ok(false);
     }
-    say::text(b", broken ");
-    say::number(out[1]);
-    say::text(b" at descriptor ");
-    say::number(out[8]);
-    say::text(b", number ");
-    say::number(out[6]);
-    say::text(b" of its chain, last chain ");
-    say::number(out[9]);
-    true
+    say::text(rt, b", broken ")?;
+    say::number(rt, out[1])?;
+    say::text(rt, b" at descriptor ")?;
+    say::number(rt, out[8])?;
+    say::text(rt, b", number ")?;
+    say::number(rt, out[6])?;
+    say::text(rt, b" of its chain, last chain ")?;
+    say::number(rt, out[9])?;
+    Ok(true)
 }

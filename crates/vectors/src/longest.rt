@@ -5,6 +5,7 @@ use crate::guest::Bytes;
 use crate::host::Stage;
 use crate::refusals::told;
 use crate::{areas, guest, host, say};
+use std::io;
 
 fn enable(state: &mut [usize], chain: usize) -> usize {
     host::set_memory(state, 65536);
@@ -16,19 +17,29 @@ fn enable(state: &mut [usize], chain: usize) -> usize {
 }
 
 // What its chain memory must be.
-pub fn lent() {
+pub fn lent(rt: &impl Print) -> io::Result<()> {
     let mut state = [0; hostiledisk::STATE_WORDS];
-    told(b"hd_chain_words of 1024", hostiledisk::hd_chain_words(1024));
-    told(b"hd_chain_words of 2048", hostiledisk::hd_chain_words(2048));
-    told(b"hd_state_words", hostiledisk::hd_state_words());
     told(
+        rt,
+        b"hd_chain_words of 1024",
+        hostiledisk::hd_chain_words(1024),
+    )?;
+    told(
+        rt,
+        b"hd_chain_words of 2048",
+        hostiledisk::hd_chain_words(2048),
+    )?;
+    told(rt, b"hd_state_words", hostiledisk::hd_state_words())?;
+    told(
+        rt,
         b"hd_enable, size 1024, 2047 words of chain memory",
         enable(&mut state, 2047),
-    );
+    )?;
     told(
+        rt,
         b"hd_enable, size 1024, 2048 words of chain memory",
         enable(&mut state, 2048),
-    );
+    )
 }
 
 // The last descriptor has these flags.
@@ -54,7 +65,13 @@ fn clear(m: &mut Bytes) {
 }
 
 // Steps until nothing is left to do or the queue is broken, at most 1,100 times. Says how many there were, and the last one's answer.
-fn run(state: &mut [usize], mem: &mut Bytes, backing: &mut Bytes, stage: &mut Stage) {
+fn run(
+    rt: &impl Print,
+    state: &mut [usize],
+    mem: &mut Bytes,
+    backing: &mut Bytes,
+    stage: &mut Stage,
+) -> io::Result<()> {
     let mut chain = [0; 2048];
     let mut answer = 1usize;
     let mut i = 0usize;
@@ -65,9 +82,9 @@ fn run(state: &mut [usize], mem: &mut Bytes, backing: &mut Bytes, stage: &mut St
         answer = hostiledisk::hd_step(state, mem, backing, &mut chain, stage);
         i += 1;
     }
-    say::number(i);
-    say::text(b" steps, the last one ");
-    say::number(answer);
+    say::number(rt, i)?;
+    say::text(rt, b" steps, the last one ")?;
+    say::number(rt, answer)
 }
 
 // How many of the data bytes are not the disk's.
@@ -83,43 +100,58 @@ fn wrong(mem: &Bytes, backing: &Bytes) -> usize {
     n
 }
 
-fn answered(mem: &Bytes, backing: &Bytes) {
-    areas::show(b", used ring", mem, 0xd000, 12);
-    areas::show(b", status", mem, 0x7000, 1);
-    say::text(b", wrong bytes of 8192: ");
-    say::number(wrong(mem, backing));
+fn answered(rt: &impl Print, mem: &Bytes, backing: &Bytes) -> io::Result<()> {
+    areas::show(rt, b", used ring", mem, 0xd000, 12)?;
+    areas::show(rt, b", status", mem, 0x7000, 1)?;
+    say::text(rt, b", wrong bytes of 8192: ")?;
+    say::number(rt, wrong(mem, backing))
 }
 
 // Of the descriptors, of the available ring, of the used ring, of the header, of data and status, and of all other memory.
-fn changed(mem: &Bytes, before: &Bytes) {
-    say::text(b", changed");
-    areas::count(mem, before, 0x8000, 0xc000);
-    areas::count(mem, before, 0xc000, 0xd000);
-    areas::count(mem, before, 0xd000, 0xd00c);
-    areas::count(mem, before, 0x4000, 0x5000);
-    areas::count(mem, before, 0x5000, 0x7001);
-    areas::count(mem, before, 0, 0x4000);
-    areas::count(mem, before, 0x7001, 0x8000);
-    areas::count(mem, before, 0xd00c, 0x10000);
-    say::line();
+fn changed(rt: &impl Print, mem: &Bytes, before: &Bytes) -> io::Result<()> {
+    say::text(rt, b", changed")?;
+    areas::count(rt, mem, before, 0x8000, 0xc000)?;
+    areas::count(rt, mem, before, 0xc000, 0xd000)?;
+    areas::count(rt, mem, before, 0xd000, 0xd00c)?;
+    areas::count(rt, mem, before, 0x4000, 0x5000)?;
+    areas::count(rt, mem, before, 0x5000, 0x7001)?;
+    areas::count(rt, mem, before, 0, 0x4000)?;
+    areas::count(rt, mem, before, 0x7001, 0x8000)?;
+    areas::count(rt, mem, before, 0xd00c, 0x10000)?;
+    say::line(rt)
 }
 
-fn play(mem: &mut Bytes, backing: &mut Bytes, stage: &mut Stage, flags: usize) {
+fn play(
+    rt: &impl Print,
+    mem: &mut Bytes,
+    backing: &mut Bytes,
+    stage: &mut Stage,
+    flags: usize,
+) -> io::Result<()> {
     lay(mem, flags);
     let before = *mem;
     let mut state = [0; hostiledisk::STATE_WORDS];
     enable(&mut state, 2048);
-    run(&mut state, mem, backing, stage);
-    if !host::broken(&state) {
-        answered(mem, backing);
+    run(rt, &mut state, mem, backing, stage)?;
+    if !host::broken(rt, &state)? {
+        answered(rt, mem, backing)?;
     }
-    changed(mem, &before);
+    changed(rt, mem, &before)?;
     clear(mem);
+    Ok(())
 }
 
-pub fn chains(mem: &mut Bytes, backing: &mut Bytes, stage: &mut Stage) {
-    say::text(b"a chain of exactly 1024 descriptors on a queue of 1024: ");
-    play(mem, backing, stage, 2);
-    say::text(b"the same with NEXT on the last: ");
-    play(mem, backing, stage, 3);
+pub fn chains(
+    rt: &impl Print,
+    mem: &mut Bytes,
+    backing: &mut Bytes,
+    stage: &mut Stage,
+) -> io::Result<()> {
+    say::text(
+        rt,
+        b"a chain of exactly 1024 descriptors on a queue of 1024: ",
+    )?;
+    play(rt, mem, backing, stage, 2)?;
+    say::text(rt, b"the same with NEXT on the last: ")?;
+    play(rt, mem, backing, stage, 3)
 }

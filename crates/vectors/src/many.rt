@@ -3,6 +3,7 @@
 use crate::guest::Bytes;
 use crate::host::Stage;
 use crate::{areas, guest, host, say};
+use std::io;
 
 fn map(words: &mut [usize]) {
     if words.len() < 96 {
@@ -26,24 +27,37 @@ fn set_up(state: &mut [usize]) {
 }
 
 // Data and status are the places from up to to.
-fn play(mem: &mut Bytes, backing: &mut Bytes, stage: &mut Stage, from: usize, to: usize) {
+fn play(
+    rt: &impl Print,
+    mem: &mut Bytes,
+    backing: &mut Bytes,
+    stage: &mut Stage,
+    from: usize,
+    to: usize,
+) -> io::Result<()> {
     guest::ask(mem, 0, 3, 16);
     let addr = std::num::wrapping_add_usize(0x8000_0000, from);
     guest::descriptor(mem, 1, addr, 513, 2, 0);
     let before = *mem;
     let mut state = [0; hostiledisk::STATE_WORDS];
     set_up(&mut state);
-    host::run(&mut state, mem, backing, stage, false);
-    if !host::broken(&state) {
-        areas::show(b", used ring", mem, 0x3000, 12);
+    host::run(rt, &mut state, mem, backing, stage, false)?;
+    if !host::broken(rt, &state)? {
+        areas::show(rt, b", used ring", mem, 0x3000, 12)?;
     }
-    areas::changed(mem, &before, from, to);
+    areas::changed(rt, mem, &before, from, to)?;
     areas::clear(mem, from, to);
+    Ok(())
 }
 
-pub fn rows(mem: &mut Bytes, backing: &mut Bytes, stage: &mut Stage) {
-    say::text(b"32 regions, data and status in the last: ");
-    play(mem, backing, stage, 0xf800, 0xfa01);
-    say::text(b"32 regions, data and status over the border of two: ");
-    play(mem, backing, stage, 0xf7ff, 0xfa00);
+pub fn rows(
+    rt: &impl Print,
+    mem: &mut Bytes,
+    backing: &mut Bytes,
+    stage: &mut Stage,
+) -> io::Result<()> {
+    say::text(rt, b"32 regions, data and status in the last: ")?;
+    play(rt, mem, backing, stage, 0xf800, 0xfa01)?;
+    say::text(rt, b"32 regions, data and status over the border of two: ")?;
+    play(rt, mem, backing, stage, 0xf7ff, 0xfa00)
 }

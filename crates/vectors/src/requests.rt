@@ -3,6 +3,7 @@
 use crate::guest::Bytes;
 use crate::host::Stage;
 use crate::{areas, guest, host, say};
+use std::io;
 
 // For each row type, sector, r, w, whether the disk is read-only, and how many data bytes to show.
 #[rattlefmt::skip]
@@ -56,87 +57,123 @@ fn asked(i: usize) -> Request {
     }
 }
 
-fn name(q: Request) {
-    say::nth(b"IN|OUT|type 2||FLUSH||||GET_ID|", q.kind);
-    say::text(b", sector ");
-    say::number(q.sector);
-    say::nth(b"|, read-only disk|", q.read_only);
-    say::text(b": ");
-    say::number(q.r);
-    say::text(b" r, ");
-    say::number(q.w);
-    say::text(b" w: ");
+fn name(rt: &impl Print, q: Request) -> io::Result<()> {
+    say::nth(rt, b"IN|OUT|type 2||FLUSH||||GET_ID|", q.kind)?;
+    say::text(rt, b", sector ")?;
+    say::number(rt, q.sector)?;
+    say::nth(rt, b"|, read-only disk|", q.read_only)?;
+    say::text(rt, b": ")?;
+    say::number(rt, q.r)?;
+    say::text(rt, b" r, ")?;
+    say::number(rt, q.w)?;
+    say::text(rt, b" w: ")
 }
 
-fn serve(read_only: usize, mem: &mut Bytes, backing: &mut Bytes, stage: &mut Stage) {
+fn serve(
+    rt: &impl Print,
+    read_only: usize,
+    mem: &mut Bytes,
+    backing: &mut Bytes,
+    stage: &mut Stage,
+) -> io::Result<()> {
     let mut state = [0; hostiledisk::STATE_WORDS];
     host::set_up(&mut state, read_only, 0);
-    host::run(&mut state, mem, backing, stage, false);
+    host::run(rt, &mut state, mem, backing, stage, false)
 }
 
 // The status byte at place k, and the length in the used ring.
-fn answer(mem: &Bytes, k: usize) {
-    areas::show(b", status", mem, k, 1);
-    say::text(b", len ");
-    say::number(wire::get32(mem, 0x3008));
+fn answer(rt: &impl Print, mem: &Bytes, k: usize) -> io::Result<()> {
+    areas::show(rt, b", status", mem, k, 1)?;
+    say::text(rt, b", len ")?;
+    say::number(rt, wire::get32(mem, 0x3008))
 }
 
 // The writable bytes are the w from 0x80005000 on.
-fn row(q: Request, mem: &mut Bytes, backing: &mut Bytes, stage: &mut Stage) {
+fn row(
+    rt: &impl Print,
+    q: Request,
+    mem: &mut Bytes,
+    backing: &mut Bytes,
+    stage: &mut Stage,
+) -> io::Result<()> {
     let w = q.w % 4096;
     guest::joined(mem, q.kind, q.sector, q.r, w);
     let before = *mem;
-    serve(q.read_only, mem, backing, stage);
-    answer(mem, 0x4fff + w);
-    data(mem, q.shown);
-    areas::changed(mem, &before, 0x5000, 0x5000 + w);
+    serve(rt, q.read_only, mem, backing, stage)?;
+    answer(rt, mem, 0x4fff + w)?;
+    data(rt, mem, q.shown)?;
+    areas::changed(rt, mem, &before, 0x5000, 0x5000 + w)?;
     areas::clear(mem, 0x5000, 0x5000 + w);
+    Ok(())
 }
 
-fn data(mem: &Bytes, n: usize) {
+fn data(rt: &impl Print, mem: &Bytes, n: usize) -> io::Result<()> {
     if 0 < n {
-        areas::show(b", data", mem, 0x5000, n);
+        areas::show(rt, b", data", mem, 0x5000, n)?;
     }
+    Ok(())
 }
 
-pub fn rows(mem: &mut Bytes, backing: &mut Bytes, stage: &mut Stage) {
+pub fn rows(
+    rt: &impl Print,
+    mem: &mut Bytes,
+    backing: &mut Bytes,
+    stage: &mut Stage,
+) -> io::Result<()> {
     let mut i = 0;
     while i < 16 {
         let q = asked(i);
-        name(q);
-        row(q, mem, backing, stage);
+        name(rt, q)?;
+        row(rt, q, mem, backing, stage)?;
         i += 1;
     }
+    Ok(())
 }
 
-pub fn three(mem: &mut Bytes, backing: &mut Bytes, stage: &mut Stage) {
+pub fn three(
+    rt: &impl Print,
+    mem: &mut Bytes,
+    backing: &mut Bytes,
+    stage: &mut Stage,
+) -> io::Result<()> {
     guest::v1(mem);
     let before = *mem;
-    say::text(b"IN, sector 3: 16 r, 512 w, 1 w: ");
-    serve(0, mem, backing, stage);
-    answer(mem, 0x6000);
-    data(mem, 8);
-    areas::changed(mem, &before, 0x5000, 0x6001);
+    say::text(rt, b"IN, sector 3: 16 r, 512 w, 1 w: ")?;
+    serve(rt, 0, mem, backing, stage)?;
+    answer(rt, mem, 0x6000)?;
+    data(rt, mem, 8)?;
+    areas::changed(rt, mem, &before, 0x5000, 0x6001)?;
     areas::clear(mem, 0x5000, 0x6001);
+    Ok(())
 }
 
 // Of each of the six buffers of 512 the first four bytes.
-fn sectors(mem: &Bytes) {
-    say::text(b", data");
+fn sectors(rt: &impl Print, mem: &Bytes) -> io::Result<()> {
+    say::text(rt, b", data")?;
     let mut i = 0;
     while i < 6 {
-        areas::show(b" |", mem, 0x5000 + 0x400 * i, 4);
+        areas::show(rt, b" |", mem, 0x5000 + 0x400 * i, 4)?;
         i += 1;
     }
+    Ok(())
 }
 
-pub fn seven(mem: &mut Bytes, backing: &mut Bytes, stage: &mut Stage) {
+pub fn seven(
+    rt: &impl Print,
+    mem: &mut Bytes,
+    backing: &mut Bytes,
+    stage: &mut Stage,
+) -> io::Result<()> {
     guest::eight(mem, 2);
     let before = *mem;
-    say::text(b"IN, sector 0: 16 r and writable 512, 512, 512, 512, 512, 512, 1: ");
-    serve(0, mem, backing, stage);
-    answer(mem, 0x6800);
-    sectors(mem);
-    areas::changed(mem, &before, 0x5000, 0x6801);
+    say::text(
+        rt,
+        b"IN, sector 0: 16 r and writable 512, 512, 512, 512, 512, 512, 1: ",
+    )?;
+    serve(rt, 0, mem, backing, stage)?;
+    answer(rt, mem, 0x6800)?;
+    sectors(rt, mem)?;
+    areas::changed(rt, mem, &before, 0x5000, 0x6801)?;
     areas::clear(mem, 0x5000, 0x6801);
+    Ok(())
 }

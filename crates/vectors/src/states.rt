@@ -5,80 +5,104 @@ use crate::guest::Bytes;
 use crate::host::Stage;
 use crate::refusals::told;
 use crate::{host, say};
+use std::io;
 
-fn step(name: &[u8], state: &mut [usize], m: &mut Bytes, b: &mut Bytes, s: &mut Stage) {
+fn step(
+    rt: &impl Print,
+    name: &[u8],
+    state: &mut [usize],
+    m: &mut Bytes,
+    b: &mut Bytes,
+    s: &mut Stage,
+) -> io::Result<()> {
     let mut chain = [0; 16];
-    told(name, hostiledisk::hd_step(state, m, b, &mut chain, s));
+    told(rt, name, hostiledisk::hd_step(state, m, b, &mut chain, s))
 }
 
-fn status(state: &[usize]) {
+fn status(rt: &impl Print, state: &[usize]) -> io::Result<()> {
     let mut seven = [9; 7];
     told(
+        rt,
         b"hd_status, 7 words",
         hostiledisk::hd_status(state, &mut seven),
-    );
+    )?;
     let mut eight = [9; 8];
     told(
+        rt,
         b"hd_status, 8 words",
         hostiledisk::hd_status(state, &mut eight),
-    );
+    )?;
     let mut nine = [9; 9];
     told(
+        rt,
         b"hd_status, 9 words",
         hostiledisk::hd_status(state, &mut nine),
-    );
-    say::text(b"hd_status says");
-    say::numbers(&nine);
-    say::text(b"\nhd_status, 10 words, says");
-    host::say_status(state);
-    say::line();
+    )?;
+    say::text(rt, b"hd_status says")?;
+    say::numbers(rt, &nine)?;
+    say::text(rt, b"\nhd_status, 10 words, says")?;
+    host::say_status(rt, state)?;
+    say::line(rt)
 }
 
 // Each set-up call has something else to refuse too, which comes later in its order.
-fn set_up(state: &mut [usize]) {
+fn set_up(rt: &impl Print, state: &mut [usize]) -> io::Result<()> {
     let disk = hostiledisk::hd_disk(state, 0, 0, 0, b"", 0);
-    told(b"hd_disk", disk);
+    told(rt, b"hd_disk", disk)?;
     let enable = hostiledisk::hd_enable(state, 0, 0, 0, 0, 0, 0);
-    told(b"hd_enable", enable);
+    told(rt, b"hd_enable", enable)?;
     let enable_at = hostiledisk::hd_enable_at(state, 0, 0, 0, 0, 0, 0, 0);
-    told(b"hd_enable_at", enable_at);
+    told(rt, b"hd_enable_at", enable_at)?;
     told(
+        rt,
         b"hd_memory, no region",
         hostiledisk::hd_memory(state, &[], 0),
-    );
+    )
 }
 
-fn calls(state: &mut [usize], m: &mut Bytes, b: &mut Bytes, s: &mut Stage) {
-    step(b"hd_step", state, m, b, s);
-    step(b"hd_step again", state, m, b, s);
-    set_up(state);
-    status(state);
-    reset(state, m, b, s);
+fn calls(
+    rt: &impl Print,
+    state: &mut [usize],
+    m: &mut Bytes,
+    b: &mut Bytes,
+    s: &mut Stage,
+) -> io::Result<()> {
+    step(rt, b"hd_step", state, m, b, s)?;
+    step(rt, b"hd_step again", state, m, b, s)?;
+    set_up(rt, state)?;
+    status(rt, state)?;
+    reset(rt, state, m, b, s)
 }
 
-fn reset(state: &mut [usize], m: &mut Bytes, b: &mut Bytes, s: &mut Stage) {
-    told(b"hd_reset", hostiledisk::hd_reset(state));
-    step(b"hd_step after it", state, m, b, s);
+fn reset(
+    rt: &impl Print,
+    state: &mut [usize],
+    m: &mut Bytes,
+    b: &mut Bytes,
+    s: &mut Stage,
+) -> io::Result<()> {
+    told(rt, b"hd_reset", hostiledisk::hd_reset(state))?;
+    step(rt, b"hd_step after it", state, m, b, s)
 }
 
-pub fn zeros(m: &mut Bytes, b: &mut Bytes, s: &mut Stage) {
+pub fn zeros(rt: &impl Print, m: &mut Bytes, b: &mut Bytes, s: &mut Stage) -> io::Result<()> {
     let mut state = [0; hostiledisk::STATE_WORDS];
-    say::text(b"A state of zeros:\n");
-    calls(&mut state, m, b, s);
+    say::text(rt, b"A state of zeros:\n")?;
+    calls(rt, &mut state, m, b, s)
 }
 
-pub fn short(m: &mut Bytes, b: &mut Bytes, s: &mut Stage) {
+pub fn short(rt: &impl Print, m: &mut Bytes, b: &mut Bytes, s: &mut Stage) -> io::Result<()> {
     let mut state = [0; hostiledisk::STATE_WORDS - 1];
-    say::text(b"A state of one word too few:\n");
-    calls(&mut state, m, b, s);
+    say::text(rt, b"A state of one word too few:\n")?;
+    calls(rt, &mut state, m, b, s)
 }
 
 // Nobody has laid anything into its memory.
-pub fn enabled(m: &mut Bytes, b: &mut Bytes, s: &mut Stage) {
+pub fn enabled(rt: &impl Print, m: &mut Bytes, b: &mut Bytes, s: &mut Stage) -> io::Result<()> {
     let mut state = [0; hostiledisk::STATE_WORDS];
     host::set_up(&mut state, 0, 0);
-    say::text(b"An enabled queue, idx 0xeeee:\n");
-    calls(&mut state, m, b, s);
+    say::text(rt, b"An enabled queue, idx 0xeeee:\n")?;
+    calls(rt, &mut state, m, b, s)
 }
 
 // 1 if they are the same, else 0.
@@ -98,20 +122,21 @@ fn told_more(state: &mut [usize], i: usize) {
     host::set_queue(state, 16 + one(i, 2), 1048576 + one(i, 3), 0);
 }
 
-fn slice_name(i: usize) {
+fn slice_name(rt: &impl Print, i: usize) -> io::Result<()> {
     let names =
         b"Guest memory too short|Backing slice too short|Chain memory too short|Staging memory too short|All slices long enough|";
-    say::nth(names, i);
+    say::nth(rt, names, i)
 }
 
 // A slice is shorter than set-up was told; then all are long enough.
-pub fn slices(m: &mut Bytes, b: &mut Bytes, s: &mut Stage) {
+pub fn slices(rt: &impl Print, m: &mut Bytes, b: &mut Bytes, s: &mut Stage) -> io::Result<()> {
     let mut i = 0;
     while i < 5 {
         let mut state = [0; hostiledisk::STATE_WORDS];
         told_more(&mut state, i);
-        slice_name(i);
-        step(b", hd_step", &mut state, m, b, s);
+        slice_name(rt, i)?;
+        step(rt, b", hd_step", &mut state, m, b, s)?;
         i += 1;
     }
+    Ok(())
 }

@@ -3,6 +3,7 @@
 use crate::guest::Bytes;
 use crate::host::Stage;
 use crate::{areas, guest, host, say};
+use std::io;
 
 // For each row two changes, of place, number of bytes and value, and the places from and up to where its data may go.
 #[rattlefmt::skip]
@@ -26,14 +27,14 @@ const ROWS: [usize; 136] = [
     0x1010, 8, 0x8000_3000, 0, 0, 0, 0x3046, 0x3201, // descriptor 1: addr
 ];
 
-fn name(i: usize) {
+fn name(rt: &impl Print, i: usize) -> io::Result<()> {
     let names = b"idx 9|idx 8, all entries 0|entry 8|descriptor 0: next 8|descriptor 0: next 0|\
           descriptor 1: NEXT and WRITE, next 1|descriptor 0: flags 5|descriptor 0: flags 9|\
           descriptor 1: len 0|descriptor 1 at 0x8000fdff|descriptor 1 at 0x8000fe00|\
           descriptor 1 at 0x7fffffff|descriptor 1 at 2^64 - 1|descriptor 1 at 0x80000000 with len 2^32 - 1|\
           a writable buffer first, the header after it|descriptor 0 without NEXT|\
           descriptor 1 at 0x80003000, the used ring|";
-    say::nth(names, i);
+    say::nth(rt, names, i)
 }
 
 // Word k of the rows.
@@ -46,17 +47,25 @@ fn cell(k: usize) -> usize {
 }
 
 // What was laid is run by a fresh device; its data may go to the places from up to to.
-fn play(mem: &mut Bytes, backing: &mut Bytes, stage: &mut Stage, from: usize, to: usize) {
+fn play(
+    rt: &impl Print,
+    mem: &mut Bytes,
+    backing: &mut Bytes,
+    stage: &mut Stage,
+    from: usize,
+    to: usize,
+) -> io::Result<()> {
     let before = *mem;
     let mut state = [0; hostiledisk::STATE_WORDS];
     host::set_up(&mut state, 0, 0);
-    say::text(b": ");
-    host::run(&mut state, mem, backing, stage, false);
-    if !host::broken(&state) {
-        areas::show(b", used ring", mem, 0x3000, 12);
+    say::text(rt, b": ")?;
+    host::run(rt, &mut state, mem, backing, stage, false)?;
+    if !host::broken(rt, &state)? {
+        areas::show(rt, b", used ring", mem, 0x3000, 12)?;
     }
-    areas::changed(mem, &before, from, to);
+    areas::changed(rt, mem, &before, from, to)?;
     areas::clear(mem, from, to);
+    Ok(())
 }
 
 fn lay(k: usize, mem: &mut Bytes) {
@@ -68,29 +77,46 @@ fn lay(k: usize, mem: &mut Bytes) {
     guest::poke(mem, cell(k + 3), cell(k + 4), cell(k + 5));
 }
 
-fn row(i: usize, mem: &mut Bytes, backing: &mut Bytes, stage: &mut Stage) {
+fn row(
+    rt: &impl Print,
+    i: usize,
+    mem: &mut Bytes,
+    backing: &mut Bytes,
+    stage: &mut Stage,
+) -> io::Result<()> {
     if 16 < i {
-        return;
+        return Ok(());
     }
     let k = 8 * i;
     lay(k, mem);
-    name(i);
-    play(mem, backing, stage, cell(k + 6), cell(k + 7));
+    name(rt, i)?;
+    play(rt, mem, backing, stage, cell(k + 6), cell(k + 7))
 }
 
-pub fn rows(mem: &mut Bytes, backing: &mut Bytes, stage: &mut Stage) {
+pub fn rows(
+    rt: &impl Print,
+    mem: &mut Bytes,
+    backing: &mut Bytes,
+    stage: &mut Stage,
+) -> io::Result<()> {
     let mut i = 0;
     while i < 17 {
-        row(i, mem, backing, stage);
+        row(rt, i, mem, backing, stage)?;
         i += 1;
     }
+    Ok(())
 }
 
-pub fn eights(mem: &mut Bytes, backing: &mut Bytes, stage: &mut Stage) {
+pub fn eights(
+    rt: &impl Print,
+    mem: &mut Bytes,
+    backing: &mut Bytes,
+    stage: &mut Stage,
+) -> io::Result<()> {
     guest::eight(mem, 2);
-    say::text(b"a chain of exactly 8 descriptors");
-    play(mem, backing, stage, 0x5000, 0x6801);
+    say::text(rt, b"a chain of exactly 8 descriptors")?;
+    play(rt, mem, backing, stage, 0x5000, 0x6801)?;
     guest::eight(mem, 3);
-    say::text(b"the same with NEXT on the eighth");
-    play(mem, backing, stage, 0x5000, 0x6801);
+    say::text(rt, b"the same with NEXT on the eighth")?;
+    play(rt, mem, backing, stage, 0x5000, 0x6801)
 }
