@@ -14,7 +14,6 @@ use Rattle.answer.proofs.spread.Goals as goal
 pub loop-i-init : goal.loop-i-init
 loop-i-init c = (c.requires.n_in_bounds, refl, c.requires.chain_value, refl)
 
--- CONV: clauses ['n_in_bounds', 'n_in_bounds_2']
 pub copy-requires : goal.copy-requires
 copy-requires c = omega (arith, inside-here _ _ _ _ c.loop-i-test.true c.loop-i.invariant.2, c.smaller-take.ensures, c.loop-i.invariant.1, c.loop-i.invariant.0)
 

@@ -14,7 +14,6 @@ returns-then-state-gt5 c = wild-job _ _ _ _ _ c.requires c.if-state-gt5.true
 pub answer_sane-requires : goal.answer_sane-requires
 answer_sane-requires c = (framed-queue _ c.requires.frame).size-high
 
--- CONV: clauses ['reads_lt_count', 'count_in_bounds']
 pub answer_ready-requires : goal.answer_ready-requires
 answer_ready-requires c = let h = answer_ok _ _ _ _ _ (sym c.answer_sane.ensures ∙ c.if-answer_sane.true) in omega (arith, h, (chain-long _ _ _ _ _ _ (held-answer _ _ _ _ _ c.requires c.if-state-gt5.false _ _ c.walk_at-k.ensures c.job_of-job.ensures)).1)
 

@@ -28,10 +28,9 @@ overflow_add-end c = omega (arith, framed-few _ c.requires.frame)
 pub slice_bounds-descriptor-end : goal.slice_bounds-descriptor-end
 slice_bounds-descriptor-end c = omega (arith, framed-few _ c.requires.frame, c.requires.words_long)
 
--- CONV: clauses ['map_value', 'size_le_size_max', 'size_in_bounds', 'size_in_bounds_2', 'cur_lt_size', 'count_le_size', 'reads_le_count', 'r_bound', 'w_bound']
 pub descriptor-x-requires : goal.descriptor-x-requires
 unfolding part config_at ready
-descriptor-x-requires c = let n = get_or c.args.state.now regions_word 0 in let e = map-long n in let t = sym c.chain_sane.ensures ∙ c.if-chain_sane.true in let f = fit-held _ _ _ _ c.args.chain.now _ (held-chain _ _ _ _ _ c.requires _ c.walk_at-k.ensures) (sane-chain _ _ _ _ t) refl in let h = chain-ok _ _ _ _ t in rw (c.queue_at-q.ensures, e) (f.sound-map, omega (arith, h, f))
+descriptor-x-requires c = let n = get_or c.args.state.now regions_word 0 in let e = map-long n in let t = sym c.chain_sane.ensures ∙ c.if-chain_sane.true in let f = fit-held _ _ _ _ c.args.chain.now _ (held-chain _ _ _ _ _ c.requires _ c.walk_at-k.ensures) (sane-chain _ _ _ _ t) refl in let h = chain-ok _ _ _ _ t in rw (c.queue_at-q.ensures, e) (record { map_value = f.sound-map; size_le_size_max = omega (arith, h, f); size_in_bounds = omega (arith, h, f); size_in_bounds_2 = omega (arith, h, f); cur_lt_size = omega (arith, h, f); count_le_size = omega (arith, h, f); reads_le_count = omega (arith, h, f); r_bound = omega (arith, h, f); w_bound = omega (arith, h, f) })
 
 pub save_chain-requires : goal.save_chain-requires
 save_chain-requires c = c.requires.words_long

@@ -7,7 +7,6 @@ use Rattle.hostiledisk.proofs.Phases.{held-entry, fit-held, acted}
 use borrow.Author.Rules.{rules}
 use Rattle.hostiledisk.proofs.arms.entry.Goals as goal
 
--- CONV: clauses ['le_size', 'size_in_bounds']
 pub entry-p-requires : goal.entry-p-requires
 unfolding sane ready
 entry-p-requires c = let f = fit-held _ _ _ _ c.args.chain.now _ (held-entry _ _ _ _ _ c.requires) refl refl in rw c.queue_at-q.ensures (omega (arith, f))

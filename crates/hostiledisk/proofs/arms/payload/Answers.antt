@@ -11,7 +11,6 @@ use Rattle.hostiledisk.proofs.arms.payload.Goals as goal
 pub payload_sane-requires : goal.payload_sane-requires
 payload_sane-requires c = (framed-queue _ c.requires.frame).size-high
 
--- CONV: clauses ['buf_in_bounds', 'lt_r', 'got_bound']
 pub payload_ready-requires : goal.payload_ready-requires
 payload_ready-requires c = let h = payload-ok _ _ _ _ _ _ (sym c.payload_sane.ensures ∙ c.if-payload_sane.true) in omega (arith, h, (chain-long _ _ _ _ _ _ (held-payload _ _ _ _ _ c.requires _ _ c.walk_at-k.ensures c.place_at-at.ensures)).1)
 

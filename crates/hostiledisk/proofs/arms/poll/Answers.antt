@@ -6,7 +6,6 @@ use Rattle.hostiledisk.proofs.Phases.{held-poll, fit-held, acted}
 use borrow.Author.Rules.{rules}
 use Rattle.hostiledisk.proofs.arms.poll.Goals as goal
 
--- CONV: clauses ['avail_in_bounds', 'taken_bound']
 pub poll-p-requires : goal.poll-p-requires
 unfolding sane ready
 poll-p-requires c = let f = fit-held _ _ _ _ c.args.chain.now _ (held-poll _ _ _ _ _ c.requires) refl refl in rw c.queue_at-q.ensures (omega (arith, f))

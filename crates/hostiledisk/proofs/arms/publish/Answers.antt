@@ -10,7 +10,6 @@ use Rattle.hostiledisk.proofs.arms.publish.Goals as goal
 pub publish_sane-requires : goal.publish_sane-requires
 publish_sane-requires c = (framed-queue _ c.requires.frame).size-high
 
--- CONV: clauses ['used_in_bounds', 'answered_bound']
 pub publish-requires : goal.publish-requires
 unfolding ready
 publish-requires c = let f = fit-held _ _ _ _ c.args.chain.now _ (held-publish _ _ _ _ _ c.requires _ c.walk_at-k.ensures) (sane-publish _ _ _ _ (sym c.publish_sane.ensures ∙ c.if-publish_sane.true)) refl in rw c.queue_at-q.ensures (omega (arith, f))
