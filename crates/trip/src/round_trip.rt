@@ -35,7 +35,7 @@ pub fn round_trip(
 ) -> Trip
     ensures value { result ≡ (round n d own.old (regions map.now) sector message.old bufs.now reads header.old bufs2.now reads2 out.old spots.old nums.old (untouched 1 state.old mem.old backing.old chain.old stage.old)).answer }
     ensures out_after { out.new ≡ (round n d own.old (regions map.now) sector message.old bufs.now reads header.old bufs2.now reads2 out.old spots.old nums.old (untouched 1 state.old mem.old backing.old chain.old stage.old)).out }
-    ensures value_2 { Honest state.old mem.old backing.old chain.old stage.old n d own.old map.now sector message.old bufs.now reads header.old bufs2.now reads2 out.old spots.old nums.old → (result ≡ Both 0 0) × (out.new ≡ drop 16 message.old) }
+    ensures read_back { Honest state.old mem.old backing.old chain.old stage.old n d own.old map.now sector message.old bufs.now reads header.old bufs2.now reads2 out.old spots.old nums.old → (result ≡ Both 0 0) × (out.new ≡ drop 16 message.old) }
 {
     let write = Ask {
         kind: 1,

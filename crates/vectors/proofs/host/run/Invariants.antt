@@ -1,0 +1,9 @@
+use Rattle.std.proofs.Common.{◌≡◌, ◌-◌, ◌≤◌, length, refl, rules}
+use Rattle.vectors.proofs.host.run.Given as goal
+
+-- At most 64 turns; a step keeps the lengths of state and chain memory.
+abbrev pub invariant-loop-i : goal.invariant-loop-i
+invariant-loop-i l = (length l.initial.i ≡ length l.rt) × (length l.stage ≡ 16)
+
+abbrev pub decreases-loop-i : goal.decreases-loop-i
+decreases-loop-i l = 64 - l.chain

@@ -1,0 +1,9 @@
+use Rattle.std.proofs.Common.{◌-◌, ◌≤◌, rules}
+use Rattle.vectors.proofs.requests.rows.Given as goal
+
+-- Sixteen turns; nothing is to be kept but the bound.
+abbrev pub invariant-loop-i : goal.invariant-loop-i
+invariant-loop-i l = 0 ≤ l.stage
+
+abbrev pub decreases-loop-i : goal.decreases-loop-i
+decreases-loop-i l = 16 - l.stage

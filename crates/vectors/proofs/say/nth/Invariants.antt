@@ -1,0 +1,9 @@
+use Rattle.std.proofs.Common.{◌-◌, ◌≤◌, length, rules}
+use Rattle.vectors.proofs.say.nth.Given as goal
+
+-- A letter a turn; the invariant keeps the index within the names.
+abbrev pub invariant-loop-k : goal.invariant-loop-k
+invariant-loop-k l = l.at ≤ length l.rt
+
+abbrev pub decreases-loop-k : goal.decreases-loop-k
+decreases-loop-k l = length l.rt - l.at
