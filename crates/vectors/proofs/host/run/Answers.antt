@@ -2,4 +2,4 @@ use Rattle.std.proofs.Common.{◌≡◌, ◌-◌, ◌≤◌, length, refl, rules
 use Rattle.vectors.proofs.host.run.Goals as goal
 
 pub loop-i-init : goal.loop-i-init
-loop-i-init c = (refl, refl)
+loop-i-init g c = (refl, refl)

@@ -3,7 +3,7 @@ use Rattle.vectors.proofs.requests.sectors.Given as goal
 
 -- Six turns; the bound keeps the places small.
 abbrev pub invariant-loop-i : goal.invariant-loop-i
-invariant-loop-i l = 0 ≤ l.i
+invariant-loop-i g l = 0 ≤ l.i
 
 abbrev pub decreases-loop-i : goal.decreases-loop-i
-decreases-loop-i l = 6 - l.i
+decreases-loop-i g l = 6 - l.i

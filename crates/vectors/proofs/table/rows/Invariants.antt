@@ -3,7 +3,7 @@ use Rattle.vectors.proofs.table.rows.Given as goal
 
 -- Seventeen turns; nothing is to be kept but the bound.
 abbrev pub invariant-loop-i : goal.invariant-loop-i
-invariant-loop-i l = 0 ≤ l.stage
+invariant-loop-i g l = 0 ≤ l.i
 
 abbrev pub decreases-loop-i : goal.decreases-loop-i
-decreases-loop-i l = 17 - l.stage
+decreases-loop-i g l = 17 - l.i
