@@ -1,28 +1,27 @@
 -- From what the functions of a step ensure to the model's step. A step that publishes nothing leaves the counters;
 -- of the two that touch the world before S6, only S5 does, and only with the payload's last bytes.
-use Prim.Native.Nat.{ℕ, zero, suc, ◌+◌, ◌-◌, ◌*◌, ◌%◌, ◌≤◌, ◌<◌, min}
+use Prim.Native.Nat.{ℕ, ◌+◌, ◌-◌, ◌*◌, ◌%◌, ◌≤◌}
 use mathlib.Core.Bool.{Bool, true, false}
 use mathlib.Core.List.{List, [], ◌∷◌, ◌++◌}
 use mathlib.Core.Path.{◌≡◌, refl, sym, ap, ◌∙◌}
 use native.Mathlib.Omega.{arith}
 use native.Mathlib.Nat.{add-zero}
-use lib.ListN.{length, get_or}
+use lib.ListN.{get_or}
 use lib.Dec.{leb}
 use borrow.Author.Tests.{leb-true, le-leb}
 use Rattle.model.specs.Pick.{pick}
 use Rattle.model.specs.Bytes.{put, part, word, bytes}
 use Rattle.model.specs.Ring.{polled, headed, plus_one}
 use Rattle.model.specs.Chain.{desc_at, tested, described, descs_after, keeps}
-use Rattle.model.specs.Step.{Cfg, State, Span, Out, Effect, nothing, stores, Store, apply, shifted, spans, writables, left, lacks, ends, gathered, paid, want, next, chained, measured, staged, effect, answer_stores, mem_stores, disk_stores, disk_of, counted, code_after, code_of, fetched, step_with, step}
-use Rattle.model.specs.Sane.{sane, ready, inside, all_inside, place_is_ok}
+use Rattle.model.specs.Step.{Cfg, Span, nothing, stores, apply, shifted, writables, left, lacks, ends, gathered, paid, want, next, chained, measured, staged, effect, answer_stores, mem_stores, disk_stores, disk_of, counted, code_after, code_of, fetched, step_with, step}
+use Rattle.model.specs.Sane.{ready, inside, all_inside, place_is_ok}
 use Rattle.model.proofs.Tests.{picked, both-split}
 use Rattle.model.proofs.Words.{word-part}
-use Rattle.model.specs.declared.Disk.{Disk}
 use Rattle.model.specs.declared.Walk.{Walk}
 use Rattle.model.specs.declared.Place.{Place}
 use Rattle.model.specs.declared.Job.{Job}
 use Rattle.model.specs.declared.Phase.{Phase}
-use Rattle.model.specs.declared.Phase.TheVariants.{Poll, Entry, Chain, Header, Payload, Answer, Publish, Broken}
+use Rattle.model.specs.declared.Phase.TheVariants.{Poll, Entry, Chain, Header, Payload, Answer, Publish}
 use Rattle.device.specs.Turn.{Fit, Met, state_of}
 use Rattle.device.specs.Fit.{HeaderFit, PayloadFit}
 use Rattle.device.specs.declared.Config.{Config}

@@ -4,15 +4,14 @@ use mathlib.Core.Bool.{Bool, true, false}
 use mathlib.Core.List.{List, [], ◌∷◌, ◌++◌}
 use mathlib.Core.Path.{◌≡◌, refl, sym, ◌∙◌, ap}
 use native.Mathlib.Omega.{arith}
-use native.Mathlib.Nat.{add-zero}
 use lib.Dec.{leb, ltb, eqb}
-use lib.ListN.{get_or, length, take, drop, set}
+use lib.ListN.{get_or, length, take, set}
 use lib.Seq.{take-append-le, take-append-add, take-nil}
 use Rattle.driver.specs.Lay.{queue_in}
 use borrow.Author.Tests.{leb-true, leb-false, ltb-true}
 use Rattle.model.specs.Pick.{pick, both}
 use Rattle.model.specs.Bytes.{put, part}
-use Rattle.model.specs.Step.{Span, spans, buffer}
+use Rattle.model.specs.Step.{spans}
 use Rattle.model.specs.Sane.{all_inside}
 use Rattle.model.proofs.Tests.{told, both-split, on}
 use Rattle.model.proofs.Lists.{put-put, put-nil, length_part, take_part}
@@ -23,7 +22,7 @@ use Rattle.driver.specs.Take.{freed, released, spots_in, countable, judged, outs
 use Rattle.driver.proofs.Laws.{queue-ok}
 use Rattle.model.specs.Ring.{pending, plus_one, size_max}
 use Rattle.driver.specs.declared.Taken.{Taken}
-use Rattle.driver.specs.declared.Taken.TheVariants.{None, Strange, Answer}
+use Rattle.driver.specs.declared.Taken.TheVariants.{Answer}
 use Rattle.driver.specs.declared.Driver.{Driver}
 
 -- one descriptor more is looked at

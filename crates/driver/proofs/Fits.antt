@@ -1,15 +1,15 @@
 -- Where laying answers 0, all that the record LayFit says holds of the request, its spots and its numbers.
-use Prim.Native.Nat.{ℕ, zero, suc, ◌+◌, ◌-◌, ◌*◌, ◌/◌, ◌%◌, ◌≤◌, ◌<◌, min}
+use Prim.Native.Nat.{ℕ, zero, suc, ◌+◌, ◌-◌, ◌*◌, ◌/◌, ◌%◌, ◌≤◌, ◌<◌}
 use Rattle.model.specs.Ring.{plus_one}
 use mathlib.Core.Bool.{Bool, true, false}
 use mathlib.Core.List.{List, [], ◌∷◌}
 use mathlib.Core.Path.{◌≡◌, refl, sym, ◌∙◌, ap}
 use native.Mathlib.Omega.{arith}
-use lib.Dec.{leb, ltb, eqb}
+use lib.Dec.{leb, eqb}
 use lib.ListN.{get_or, length, take, length-take}
 use lib.Seq.{get_or-take}
 use borrow.Author.Tests.{leb-true, eqb-true, eqb-false, le-leb}
-use Rattle.model.specs.Pick.{pick, both}
+use Rattle.model.specs.Pick.{pick}
 use Rattle.model.specs.Bytes.{put}
 use Rattle.model.specs.Memory.{Region, sound, locate}
 use Rattle.model.specs.Step.{Span, spans}
@@ -23,10 +23,10 @@ use Rattle.model.proofs.Ring.{size-range}
 use native.Mathlib.Nat.{zero-add}
 use Rattle.model.proofs.Lists.{length-put, put_in, put-below}
 use Rattle.requests.specs.Serve.{total}
-use Rattle.driver.specs.Lay.{spot_of, spot_at, is_at, place_of, in_memory, settled, spots_of, area_words, formed, measured, form_ok, separate, free, ready, counts_ok, plan_on, plan, Plan, planned, PlanIs}
+use Rattle.driver.specs.Lay.{spot_of, spot_at, is_at, place_of, in_memory, settled, spots_of, area_words, formed, measured, form_ok, separate, free, ready, counts_ok, plan_on, plan, Plan, PlanIs}
 use Rattle.driver.specs.Fit.{Spot, Areas, LayFit, Numbers, WriteFit}
 use Rattle.driver.proofs.Laws.{ReadyOk, ready-ok, CountsOk, counts-ok}
-use Rattle.driver.proofs.Formed.{FormOk, formed-ok}
+use Rattle.driver.proofs.Formed.{formed-ok}
 use Rattle.driver.proofs.Free.{free-below, rising-at}
 
 -- spots that are settled: what lies before them stays, and the length

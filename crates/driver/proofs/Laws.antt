@@ -1,5 +1,5 @@
 -- Turns of the driver's loops: the rest, from buffer i on, has the whole's answer.
-use Prim.Native.Nat.{ℕ, zero, suc, ◌+◌, ◌-◌, ◌*◌, ◌/◌, ◌%◌, ◌≤◌, ◌<◌, min}
+use Prim.Native.Nat.{ℕ, suc, ◌+◌, ◌-◌, ◌*◌, ◌/◌, ◌%◌, ◌≤◌, ◌<◌, min}
 use mathlib.Core.Bool.{Bool, true, false}
 use mathlib.Core.List.{List, [], ◌∷◌, ◌++◌, append_assoc, append-nil}
 use mathlib.Core.Path.{◌≡◌, refl, sym, ◌∙◌, ap}
@@ -11,13 +11,13 @@ use Rattle.model.proofs.Tests.{told, both-split}
 use Rattle.model.proofs.Ring.{size-range}
 use lib.Seq.{take_all, take-append-le, take-suc, take-nil}
 use lib.Dec.{leb, ltb, eqb}
-use lib.ListN.{get_or, length, take, drop, length-append, length-take}
+use lib.ListN.{get_or, length, take, length-append, length-take}
 use Rattle.model.specs.Pick.{pick, both}
 use Rattle.model.specs.Bytes.{put, part, bytes}
 use Rattle.model.specs.Memory.{Region, overlap, sound}
 use Rattle.model.specs.Ring.{queue_size_ok, size_max}
 use Rattle.model.specs.declared.Queue.{Queue}
-use Rattle.model.specs.Step.{Span, Store, spans, buffer, apply, scatter}
+use Rattle.model.specs.Step.{Span, spans, apply, scatter}
 use Rattle.model.proofs.Lists.{put-put, put-nil, part-zero, part-first, part-all}
 use Rattle.model.proofs.Words.{length-bytes}
 use Rattle.model.proofs.Step.{spans-turn, spans-end, apply-append}

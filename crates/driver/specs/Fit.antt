@@ -1,11 +1,10 @@
 -- What laying stands on once its tests are passed.
-use Rattle.std.specs.Prelude.{ℕ, zero, suc, ◌+◌, ◌-◌, ◌*◌, ◌/◌, ◌≤◌, ◌<◌, true, List, [], ◌∷◌, ◌++◌, ◌≡◌, get_or, length}
+use Rattle.std.specs.Prelude.{ℕ, ◌+◌, ◌-◌, ◌*◌, ◌≤◌, ◌<◌, true, List, ◌≡◌, get_or, length}
 use Rattle.model.specs.Memory.{Region, sound, locate}
 use Rattle.model.specs.Ring.{queue_size_ok}
-use Rattle.model.specs.Step.{Span, spans}
+use Rattle.model.specs.Step.{spans}
 use Rattle.model.specs.Sane.{all_inside}
-use Rattle.model.specs.declared.Found.{Found}
-use Rattle.model.specs.declared.Found.TheVariants.{At, Nothing}
+use Rattle.model.specs.declared.Found.TheVariants.{At}
 use Rattle.model.specs.declared.Queue.{Queue}
 use Rattle.requests.specs.Serve.{total}
 use Rattle.driver.specs.Lay.{separate, formed}

@@ -1,14 +1,13 @@
 -- Reading answers: used idx, the next used entry, the status byte and the data. A device may be hostile too: an answer that names no outstanding
 -- request is refused.
-use Rattle.std.specs.Prelude.{ℕ, zero, suc, ◌+◌, ◌-◌, ◌*◌, ◌/◌, ◌%◌, Bool, true, false, List, [], ◌∷◌, leb, ltb, eqb, get_or, length, take, set}
+use Rattle.std.specs.Prelude.{ℕ, zero, suc, ◌+◌, ◌-◌, ◌*◌, ◌/◌, Bool, List, [], ◌∷◌, leb, ltb, eqb, get_or, length, take, set}
 use Rattle.model.specs.Pick.{pick, both}
 use Rattle.model.specs.Bytes.{put, word}
 use Rattle.model.specs.Ring.{pending, plus_one}
-use Rattle.model.specs.Step.{Span, spans, used_at}
+use Rattle.model.specs.Step.{spans, used_at}
 use Rattle.model.specs.Sane.{all_inside}
-use Rattle.model.specs.declared.Queue.{Queue}
-use Rattle.requests.specs.Serve.{gather, total}
-use Rattle.driver.specs.Lay.{queue_in, measured}
+use Rattle.requests.specs.Serve.{gather}
+use Rattle.driver.specs.Lay.{queue_in}
 use Rattle.driver.specs.declared.Driver.{Driver}
 use Rattle.driver.specs.declared.Taken.{Taken}
 use Rattle.driver.specs.declared.Taken.TheVariants.{None, Strange, Answer}

@@ -1,16 +1,16 @@
 -- What the level of the words tells, and so what a step on them stands on.
-use Prim.Native.Nat.{ℕ, ◌+◌, ◌-◌, ◌*◌, ◌/◌, ◌%◌, ◌≤◌, ◌<◌}
+use Prim.Native.Nat.{ℕ, ◌+◌, ◌*◌, ◌≤◌}
 use mathlib.Core.Bool.{Bool, true, false}
-use mathlib.Core.List.{List, []}
-use mathlib.Core.Path.{◌≡◌, refl, sym, ◌∙◌, ap}
+use mathlib.Core.List.{List}
+use mathlib.Core.Path.{◌≡◌, refl}
 use native.Mathlib.Omega.{arith}
-use lib.Dec.{leb, ltb, eqb}
+use lib.Dec.{leb, eqb}
 use lib.ListN.{get_or, length}
 use borrow.Author.Tests.{eqb-true, leb-true}
 use Rattle.model.specs.Pick.{pick, both}
 use Rattle.model.specs.Memory.{regions, sound, regions_max}
 use Rattle.model.specs.Request.{disk_code}
-use Rattle.model.specs.Sane.{sane, ready}
+use Rattle.model.specs.Sane.{sane}
 use Rattle.model.proofs.Tests.{told, both-split}
 use Rattle.device.specs.Turn.{Fit}
 use Rattle.words.specs.Layout.{map_words, phase_of, row_at, config_at, memory_ok, disk_ok, queue_ok, tags_ok, phase_ok, enabled_ok, level, level_word, mem_len_word, regions_word, start_word, sectors_word, backing_len_word, size_word, chain_len_word, taken_word, answered_word, tag_word, a_word}

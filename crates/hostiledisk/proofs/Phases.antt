@@ -4,7 +4,7 @@ use mathlib.Core.Bool.{Bool, true, false}
 use mathlib.Core.List.{List}
 use mathlib.Core.Path.{◌≡◌, refl, sym, ◌∙◌}
 use native.Mathlib.Omega.{arith}
-use lib.Dec.{leb, ltb, eqb}
+use lib.Dec.{leb, eqb}
 use lib.ListN.{get_or, length}
 use borrow.Author.Tests.{eqb-true, eqb-false, leb-true, le-ltb, le-leb, lt-leb}
 use Rattle.model.specs.Memory.{regions_max}
@@ -23,7 +23,7 @@ use Rattle.device.specs.Turn.{Fit, Met, cfg_of, state_of}
 use Rattle.words.specs.declared.Row.{Row}
 use Rattle.words.specs.Layout.{state_words, row, walk_of, job_of, phase_of, row_at, saved, walk_at, place_at, config_at, map_words, memory_ok, tags_ok, phase_ok, framed, level, level_word, mem_len_word, regions_word, sectors_word, backing_len_word, size_word, chain_len_word, taken_word, answered_word, tag_word, head_word, count_word, a_word, b_word, c_word, d_word, descs_word}
 use Rattle.words.proofs.Laws.{level-framed, framed-queue}
-use Rattle.hostiledisk.specs.Calls.{is_broken, long_enough, stepped, stepped_on, untouched, broken_code, hd_step, Framed, Going, StepIs}
+use Rattle.hostiledisk.specs.Calls.{is_broken, long_enough, stepped, stepped_on, untouched, broken_code, hd_step, Framed, StepIs}
 use Rattle.hostiledisk.proofs.Laws.{memory-ok, fit_of, untouched-is}
 
 -- the phase's words, its number being this

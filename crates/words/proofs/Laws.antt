@@ -1,20 +1,17 @@
 -- What the tests of the words tell; what is saved is found again.
-use Prim.Native.Nat.{ℕ, ◌+◌, ◌-◌, ◌*◌, ◌^◌, ◌≤◌, ◌<◌}
+use Prim.Native.Nat.{ℕ, ◌+◌, ◌-◌, ◌*◌, ◌≤◌, ◌<◌}
 use mathlib.Core.Bool.{Bool, true, false}
-use mathlib.Core.List.{List, [], ◌∷◌}
-use mathlib.Core.Path.{◌≡◌, refl, sym, ◌∙◌, ap}
+use mathlib.Core.List.{List}
+use mathlib.Core.Path.{◌≡◌, refl}
 use native.Mathlib.Omega.{arith}
 use lib.Dec.{leb, ltb, eqb}
-use lib.ListN.{get_or, length}
+use lib.ListN.{get_or}
 use borrow.Author.Tests.{eqb-true}
 use Rattle.model.specs.Pick.{pick, both}
-use Rattle.model.specs.Memory.{regions, sound}
 use Rattle.model.specs.Ring.{queue_size_ok, size_max}
-use Rattle.model.specs.Request.{disk_code}
-use Rattle.model.specs.Sane.{sane}
 use Rattle.model.proofs.Tests.{told, both-split}
 use Rattle.model.proofs.Ring.{size-range}
-use Rattle.words.specs.Layout.{map_words, phase_of, row_at, memory_ok, disk_ok, queue_ok, lent_ok, tags_ok, phase_ok, enabled_ok, framed, level, level_word, mem_len_word, size_word, desc_area_word, avail_area_word, used_area_word, chain_len_word, stage_len_word, taken_word, answered_word, descs_word, regions_from}
+use Rattle.words.specs.Layout.{memory_ok, disk_ok, queue_ok, lent_ok, phase_ok, enabled_ok, framed, level, level_word, mem_len_word, size_word, desc_area_word, avail_area_word, used_area_word, chain_len_word, stage_len_word, taken_word, answered_word, descs_word, regions_from}
 
 pub record QueueOk (s : List ℕ) : Type 0 where
   pub size-some : 1 ≤ get_or s size_word 0

@@ -8,7 +8,7 @@
 --   16 taken   17 answered   18 to 27 the phase: its number, then the request at hand, then four words of its own
 --   28 the number of descriptors of the last complete chain
 --   29 to 124 the regions, three words each
-use Rattle.std.specs.Prelude.{ℕ, ◌+◌, ◌-◌, ◌*◌, ◌^◌, Bool, true, false, List, [], ◌∷◌, ◌++◌, leb, ltb, eqb, get_or, length}
+use Rattle.std.specs.Prelude.{ℕ, ◌+◌, ◌*◌, ◌^◌, Bool, true, List, [], ◌∷◌, ◌++◌, leb, ltb, eqb, get_or}
 use Rattle.model.specs.Pick.{pick, both}
 use Rattle.model.specs.Bytes.{put, part}
 use Rattle.model.specs.Memory.{regions, regions_max, sound}

@@ -1,12 +1,9 @@
 use native.Mathlib.Omega.{arith}
-use Rattle.model.specs.Step.{spans, scatter, apply, writables, handed, disk_of, answer_stores}
-use Rattle.model.specs.Sane.{all_inside, job_ok}
-use Rattle.model.proofs.Step.{scatter-nil, apply-append}
+use Rattle.model.specs.Step.{handed}
+use Rattle.model.proofs.Step.{scatter-nil}
 use Rattle.model.proofs.Sane.{read_fits}
 use Rattle.model.proofs.Lists.{part-part}
-use mathlib.Core.Path.{◌≡◌, refl, sym, ◌∙◌}
-use Prim.Native.Nat.{◌+◌, ◌-◌, ◌*◌}
-use borrow.Author.Rules.{rules}
+use Prim.Native.Nat.{◌-◌, ◌*◌}
 use Rattle.answer.proofs.hand.Goals as goal
 
 pub overflow_mul-s : goal.overflow_mul-s

@@ -5,7 +5,6 @@ use Rattle.model.specs.Step.{answer_stores, apply}
 use Rattle.model.proofs.Step.{apply-append}
 use Rattle.model.proofs.Lists.{put_one}
 use Rattle.answer.proofs.Laws.{last-in}
-use borrow.Author.Rules.{rules}
 use Rattle.answer.proofs.reply.Goals as goal
 
 pub hand-requires-clause-sectors_in_bounds : goal.hand-requires-clause-sectors_in_bounds

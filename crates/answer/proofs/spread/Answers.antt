@@ -1,12 +1,5 @@
-use Prim.Native.Nat.{◌≤◌, ◌+◌, ◌-◌, ◌*◌}
-use mathlib.Core.Path.{◌≡◌, refl, sym, ◌∙◌, ap}
-use mathlib.Core.Bool.{true}
-use lib.ListN.{length}
-use borrow.Author.Rules.{rules}
+use mathlib.Core.Path.{refl, sym, ◌∙◌}
 use native.Mathlib.Omega.{arith}
-use Rattle.model.specs.Bytes.{put, part}
-use Rattle.model.specs.Step.{spans, scatter, apply}
-use Rattle.model.specs.Sane.{all_inside}
 use Rattle.model.proofs.Step.{spread-turn, spread_end}
 use Rattle.model.proofs.Sane.{inside-here, inside-rest}
 use Rattle.answer.proofs.spread.Goals as goal

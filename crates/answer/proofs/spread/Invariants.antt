@@ -1,14 +1,10 @@
-use Prim.Native.Nat.{◌≤◌, ◌+◌, ◌-◌, ◌*◌}
-use mathlib.Core.Path.{◌≡◌, refl, sym, ◌∙◌, ap}
+use Prim.Native.Nat.{◌≤◌, ◌+◌, ◌-◌}
+use mathlib.Core.Path.{◌≡◌}
 use mathlib.Core.Bool.{true}
 use lib.ListN.{length}
-use borrow.Author.Rules.{rules}
-use native.Mathlib.Omega.{arith}
-use Rattle.model.specs.Bytes.{put, part}
+use Rattle.model.specs.Bytes.{part}
 use Rattle.model.specs.Step.{spans, scatter, apply}
 use Rattle.model.specs.Sane.{all_inside}
-use Rattle.model.proofs.Step.{spread-turn, spread_end}
-use Rattle.model.proofs.Sane.{inside-here, inside-rest}
 use Rattle.answer.proofs.spread.Given as goal
 
 -- What is left to hand out, into the buffers that are left, over the memory as it is now, comes to the whole's result.

@@ -1,6 +1,5 @@
 use Rattle.model.specs.Bytes.{put, part, bytes}
 use Rattle.answer.specs.Identity.{id_bytes}
-use borrow.Author.Rules.{rules}
 use Rattle.answer.proofs.spread_identity.Goals as goal
 
 pub returns : goal.returns

@@ -1,5 +1,5 @@
 use Rattle.model.proofs.Tests.{tests}
-use Rattle.model.specs.Chain.{desc_at, tested_by, tested, tally, held, complete, described, keeps}
+use Rattle.model.specs.Chain.{complete}
 use Rattle.chain.proofs.complete.Goals as goal
 
 pub returns-then-k : goal.returns-then-k

@@ -1,9 +1,8 @@
-use mathlib.Core.Path.{◌≡◌, refl, sym, ◌∙◌, ap}
-use borrow.Author.Tests.{ne_eqb, eq-eqb, lt-ltb, le-ltb, le-leb, lt-leb, leb-false}
-use Rattle.model.specs.Chain.{desc_at, tested_by, tested, tally, held, complete, described, descs_after, keeps}
+use mathlib.Core.Path.{sym, ◌∙◌}
+use borrow.Author.Tests.{leb-false}
+use Rattle.model.specs.Chain.{tested, described, descs_after, keeps}
 use native.Mathlib.Omega.{arith}
 use Rattle.model.proofs.Chain.{next-room, last-room}
-use borrow.Author.Rules.{rules}
 use Rattle.chain.proofs.described.Goals as goal
 
 pub hold-requires : goal.hold-requires

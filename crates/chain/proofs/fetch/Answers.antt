@@ -1,4 +1,4 @@
-use Rattle.model.specs.Chain.{desc_at, tested_by, tested, tally, held, complete, described, keeps}
+use Rattle.model.specs.Chain.{desc_at}
 use borrow.Author.Rules.{rules}
 use Rattle.chain.proofs.fetch.Goals as goal
 

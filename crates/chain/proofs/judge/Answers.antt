@@ -1,8 +1,6 @@
-use borrow.Author.Tests.{ne_eqb, eq-eqb, lt-ltb, le-ltb, le-leb, lt-leb, leb-false}
-use mathlib.Core.Path.{◌≡◌, refl, sym, ◌∙◌, ap}
+use borrow.Author.Tests.{ne_eqb, eq-eqb, le-ltb, le-leb, lt-leb}
 use Rattle.model.proofs.Tests.{tests}
-use Rattle.model.specs.Chain.{desc_at, tested_by, tested, tally, held, complete, described, keeps}
-use borrow.Author.Rules.{rules}
+use Rattle.model.specs.Chain.{tested_by}
 use Rattle.chain.proofs.judge.Goals as goal
 
 pub returns-then-q-count : goal.returns-then-q-count

@@ -1,5 +1,4 @@
 use Rattle.model.proofs.Tests.{tests}
-use Rattle.model.specs.Chain.{desc_at, tested_by, tested, tally, held, complete, described, keeps}
 use Rattle.chain.proofs.late.Goals as goal
 
 pub returns-then-flags-lt2 : goal.returns-then-flags-lt2

@@ -1,6 +1,5 @@
 use Rattle.model.proofs.Tests.{tests}
-use Rattle.model.specs.Chain.{desc_at, tested_by, tested, tally, held, complete, described, keeps}
-use borrow.Author.Rules.{rules}
+use Rattle.model.specs.Chain.{tally}
 use Rattle.chain.proofs.tally.Goals as goal
 
 pub returns-then-flags-lt2 : goal.returns-then-flags-lt2

@@ -1,6 +1,5 @@
 use Rattle.model.proofs.Tests.{tests}
-use Rattle.model.specs.Step.{code_after, onward, gathered, paid, ends}
-use borrow.Author.Rules.{rules}
+use Rattle.model.specs.Step.{code_after}
 use Rattle.device.proofs.code_after.Goals as goal
 
 pub returns-in-Poll : goal.returns-in-Poll

@@ -1,5 +1,4 @@
 use native.Mathlib.Omega.{arith}
-use borrow.Author.Rules.{rules}
 use Rattle.device.proofs.descriptor.Goals as goal
 
 pub described-requires-clause-map_value : goal.described-requires-clause-map_value

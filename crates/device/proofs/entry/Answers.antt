@@ -1,4 +1,3 @@
-use borrow.Author.Rules.{rules}
 use Rattle.device.proofs.entry.Goals as goal
 
 pub returns : goal.returns

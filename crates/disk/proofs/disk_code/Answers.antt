@@ -1,8 +1,7 @@
-use borrow.Author.Tests.{ne_eqb, eq-eqb, lt-ltb, le-ltb, le-leb, lt-leb, leb-false}
+use borrow.Author.Tests.{le-leb, lt-leb}
 use Rattle.model.specs.Request.{disk_code}
 use native.Mathlib.Omega.{arith}
 use Prim.Native.Nat.{◌+◌, ◌*◌, ◌^◌}
-use borrow.Author.Rules.{rules}
 use Rattle.disk.proofs.disk_code.Goals as goal
 
 pub returns-then-sectors-lt1 : goal.returns-then-sectors-lt1

@@ -1,9 +1,8 @@
 use native.Mathlib.Omega.{arith}
-use Rattle.model.specs.Bytes.{put, part}
+use Rattle.model.specs.Bytes.{part}
 use Rattle.model.proofs.Lists.{put-put, length_part}
 use lib.ListN.{length}
 use mathlib.Core.Path.{◌≡◌}
-use borrow.Author.Rules.{rules}
 use Rattle.disk.proofs.store.Goals as goal
 
 pub returns : goal.returns

@@ -1,8 +1,7 @@
 use native.Mathlib.Omega.{arith}
-use Rattle.hostiledisk.specs.Calls.{chain_words, hd_memory, flag, disk_set, hd_disk, queue_set, enabled_with, hd_enable_at, hd_reset, seen, seen_of, shown, status_words, hd_status, is_broken, long_enough, stepped, stepped_on, Going, hd_step, StepIs}
-use mathlib.Core.Path.{◌≡◌, refl, sym, ◌∙◌, ap}
+use Rattle.hostiledisk.specs.Calls.{chain_words}
+use mathlib.Core.Path.{sym, ◌∙◌}
 use Rattle.model.proofs.Ring.{size-range}
-use borrow.Author.Rules.{rules}
 use Rattle.hostiledisk.proofs.hd_chain_words.Goals as goal
 
 pub overflow_mul-result : goal.overflow_mul-result

@@ -1,8 +1,6 @@
-use borrow.Author.Tests.{ne_eqb, eq-eqb, lt-ltb, le-ltb, le-leb, lt-leb}
-use Rattle.hostiledisk.specs.Calls.{chain_words, hd_memory, flag, disk_set, hd_disk, queue_set, enabled_with, hd_enable_at, hd_reset, seen, seen_of, shown, status_words, hd_status, is_broken, long_enough, stepped, stepped_on, Going, hd_step, StepIs}
-use mathlib.Core.Path.{◌≡◌, refl, sym, ◌∙◌, ap}
+use borrow.Author.Tests.{ne_eqb, eq-eqb, lt-ltb, le-ltb}
+use Rattle.hostiledisk.specs.Calls.{hd_reset}
 use Rattle.words.specs.Layout.{state_words}
-use borrow.Author.Rules.{rules}
 use Rattle.hostiledisk.proofs.hd_reset.Goals as goal
 
 pub returns-then-state-lt-STATE_WORDS-clause-value : goal.returns-then-state-lt-STATE_WORDS-clause-value

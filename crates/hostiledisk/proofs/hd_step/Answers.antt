@@ -1,10 +1,9 @@
-use mathlib.Core.Path.{◌≡◌, refl, sym, ◌∙◌}
+use mathlib.Core.Path.{refl, sym, ◌∙◌}
 use borrow.Author.Tests.{lt-ltb}
 use Rattle.hostiledisk.specs.Calls.{hd_step}
 use Rattle.hostiledisk.proofs.Laws.{untouched-is}
 use Rattle.hostiledisk.proofs.Phases.{unframed, broken-is, short}
 use Rattle.words.specs.Layout.{state_words}
-use borrow.Author.Rules.{rules}
 use Rattle.hostiledisk.proofs.hd_step.Goals as goal
 
 -- At each return the tests that led there choose the case of `hd_step`; a step is that of its phase (Phases).

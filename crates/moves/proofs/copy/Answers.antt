@@ -1,8 +1,6 @@
 use native.Mathlib.Omega.{arith}
-use borrow.Author.Rules.{rules}
 use Prim.Native.Nat.{◌+◌, ◌*◌, ◌/◌, ◌%◌}
 use mathlib.Core.Path.{◌≡◌}
-use Rattle.model.specs.Bytes.{put, part}
 use Rattle.model.proofs.Lists.{put-more}
 use Rattle.moves.proofs.copy.Goals as goal
 

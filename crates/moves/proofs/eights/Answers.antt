@@ -1,9 +1,7 @@
 use native.Mathlib.Omega.{arith}
 use borrow.Author.Rules.{rules}
-use Prim.Native.Nat.{◌≤◌, ◌+◌, ◌*◌, ◌-◌}
+use Prim.Native.Nat.{◌+◌, ◌*◌}
 use mathlib.Core.Path.{◌≡◌, refl, ◌∙◌}
-use lib.ListN.{length}
-use Rattle.model.specs.Bytes.{put, part}
 use Rattle.model.proofs.Lists.{put-nil, part-zero, length-put}
 use Rattle.moves.proofs.Laws.{put-eight}
 use Rattle.moves.proofs.eights.Goals as goal

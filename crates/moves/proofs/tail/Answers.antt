@@ -1,10 +1,8 @@
 use native.Mathlib.Omega.{arith}
 use borrow.Author.Rules.{rules}
-use Prim.Native.Nat.{◌≤◌, ◌+◌, ◌-◌}
 use mathlib.Core.Path.{◌≡◌, refl}
-use lib.ListN.{length, length-set}
+use lib.ListN.{length-set}
 use native.Mathlib.Numerals.{add-one}
-use Rattle.model.specs.Bytes.{put, part}
 use Rattle.model.proofs.Lists.{put-nil, put_copy, part-zero}
 use Rattle.moves.proofs.tail.Goals as goal
 

@@ -1,10 +1,5 @@
-use Prim.Native.Nat.{◌≤◌, ◌+◌, ◌-◌, ◌*◌, ◌/◌}
-use mathlib.Core.Path.{◌≡◌, refl, sym, ◌∙◌}
-use mathlib.Core.Bool.{true, false}
-use lib.ListN.{length, drop}
+use mathlib.Core.Path.{refl, sym, ◌∙◌}
 use borrow.Author.Rules.{rules}
-use native.Mathlib.Omega.{arith}
-use Rattle.model.specs.Memory.{regions, sound}
 use Rattle.model.proofs.Memory.{sound-from, sound_none}
 use Rattle.regions.proofs.all_sound.Goals as goal
 

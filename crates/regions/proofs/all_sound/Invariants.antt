@@ -1,11 +1,7 @@
-use Prim.Native.Nat.{◌≤◌, ◌+◌, ◌-◌, ◌*◌, ◌/◌}
-use mathlib.Core.Path.{◌≡◌, refl, sym, ◌∙◌}
-use mathlib.Core.Bool.{true, false}
-use lib.ListN.{length, drop}
-use borrow.Author.Rules.{rules}
-use native.Mathlib.Omega.{arith}
+use Prim.Native.Nat.{◌≤◌, ◌-◌, ◌*◌}
+use mathlib.Core.Path.{◌≡◌}
+use lib.ListN.{drop}
 use Rattle.model.specs.Memory.{regions, sound}
-use Rattle.model.proofs.Memory.{sound-from, sound_none}
 use Rattle.regions.proofs.all_sound.Given as goal
 
 abbrev pub invariant-loop-i : goal.invariant-loop-i

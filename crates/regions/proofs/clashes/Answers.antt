@@ -1,10 +1,5 @@
-use Prim.Native.Nat.{◌≤◌, ◌+◌, ◌-◌, ◌%◌}
-use mathlib.Core.Path.{◌≡◌, refl, sym, ◌∙◌}
-use mathlib.Core.Bool.{true, false}
-use lib.ListN.{length, take, drop}
+use mathlib.Core.Path.{sym, ◌∙◌}
 use borrow.Author.Rules.{rules}
-use native.Mathlib.Omega.{arith}
-use Rattle.model.specs.Memory.{regions, clash}
 use Rattle.model.proofs.Memory.{clash-turn, clash-none}
 use Rattle.regions.proofs.clashes.Goals as goal
 

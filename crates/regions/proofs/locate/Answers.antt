@@ -1,10 +1,7 @@
-use Prim.Native.Nat.{◌≤◌, ◌+◌, ◌-◌, ◌*◌, ◌/◌}
-use mathlib.Core.Path.{◌≡◌, refl, sym, ◌∙◌}
-use mathlib.Core.Bool.{true, false}
-use lib.ListN.{length, drop}
+use mathlib.Core.Path.{refl, sym, ◌∙◌}
 use borrow.Author.Rules.{rules}
 use native.Mathlib.Omega.{arith}
-use Rattle.model.specs.Memory.{region, regions, sound, locate}
+use Rattle.model.specs.Memory.{region}
 use Rattle.model.proofs.Memory.{locate-hit, locate-miss, locate-none, locate-empty, sound-turn, region-sound, contains-within}
 use Rattle.regions.proofs.locate.Goals as goal
 

@@ -1,11 +1,8 @@
-use Prim.Native.Nat.{◌≤◌, ◌+◌, ◌-◌, ◌*◌, ◌/◌}
-use mathlib.Core.Path.{◌≡◌, refl, sym, ◌∙◌}
-use mathlib.Core.Bool.{true, false}
-use lib.ListN.{length, drop}
-use borrow.Author.Rules.{rules}
-use native.Mathlib.Omega.{arith}
-use Rattle.model.specs.Memory.{region, regions, sound, locate}
-use Rattle.model.proofs.Memory.{locate-hit, locate-miss, locate-none, locate-empty, sound-turn, region-sound, contains-within}
+use Prim.Native.Nat.{◌≤◌, ◌-◌, ◌*◌}
+use mathlib.Core.Path.{◌≡◌}
+use mathlib.Core.Bool.{true}
+use lib.ListN.{drop}
+use Rattle.model.specs.Memory.{regions, sound, locate}
 use Rattle.regions.proofs.locate.Given as goal
 
 abbrev pub invariant-loop-i : goal.invariant-loop-i

@@ -1,14 +1,13 @@
-use Rattle.model.specs.Memory.{region_code, clash, regions_max}
+use Rattle.model.specs.Memory.{regions_max}
 use lib.Seq.{length-take-le}
-use Prim.Native.Nat.{◌≤◌, ◌+◌, ◌-◌, ◌%◌, ◌/◌}
-use mathlib.Core.Path.{◌≡◌, refl, sym, ◌∙◌}
-use mathlib.Core.Bool.{true, false}
-use lib.ListN.{length, take, drop}
+use Prim.Native.Nat.{◌%◌, ◌/◌}
+use mathlib.Core.Path.{refl, sym, ◌∙◌}
+use lib.ListN.{length}
 use borrow.Author.Rules.{rules}
 use native.Mathlib.Omega.{arith}
-use Rattle.model.specs.Memory.{regions, regions_code, memory_code}
-use Rattle.model.proofs.Memory.{code-turn, code-none, code_from}
-use borrow.Author.Tests.{ne_eqb, eq-eqb, lt-ltb, le-ltb, le-leb, lt-leb}
+use Rattle.model.specs.Memory.{regions, memory_code}
+use Rattle.model.proofs.Memory.{code-turn, code-none}
+use borrow.Author.Tests.{ne_eqb, eq-eqb, le-leb, lt-leb}
 use Rattle.regions.proofs.memory_code.Goals as goal
 
 pub returns-then-map-ne0 : goal.returns-then-map-ne0

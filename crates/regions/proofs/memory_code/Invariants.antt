@@ -1,14 +1,8 @@
-use Rattle.model.specs.Memory.{region_code, clash, regions_max}
-use lib.Seq.{length-take-le}
-use Prim.Native.Nat.{◌≤◌, ◌+◌, ◌-◌, ◌%◌, ◌/◌}
-use mathlib.Core.Path.{◌≡◌, refl, sym, ◌∙◌}
-use mathlib.Core.Bool.{true, false}
-use lib.ListN.{length, take, drop}
-use borrow.Author.Rules.{rules}
-use native.Mathlib.Omega.{arith}
-use Rattle.model.specs.Memory.{regions, regions_code, memory_code}
-use Rattle.model.proofs.Memory.{code-turn, code-none, code_from}
-use borrow.Author.Tests.{ne_eqb, eq-eqb, lt-ltb, le-ltb, le-leb, lt-leb}
+use Prim.Native.Nat.{◌≤◌, ◌+◌, ◌-◌, ◌%◌}
+use mathlib.Core.Path.{◌≡◌}
+use lib.ListN.{length}
+use Rattle.model.specs.Memory.{memory_code}
+use Rattle.model.proofs.Memory.{code_from}
 use Rattle.regions.proofs.memory_code.Given as goal
 
 -- The regions before i are seen and the others to come: `code_from` at i is the answer, and a refusal of the region at i is it.

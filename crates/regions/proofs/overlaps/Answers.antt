@@ -1,8 +1,7 @@
-use Prim.Native.Nat.{◌+◌, ◌-◌, ◌^◌}
-use borrow.Author.Tests.{ne_eqb, eq-eqb, lt-ltb, le-ltb, le-leb, lt-leb}
+use Prim.Native.Nat.{◌+◌}
+use borrow.Author.Tests.{lt-ltb, le-ltb}
 use native.Mathlib.Omega.{arith}
-use Rattle.model.specs.Memory.{region_code, overlap, contains}
-use borrow.Author.Rules.{rules}
+use Rattle.model.specs.Memory.{overlap}
 use Rattle.regions.proofs.overlaps.Goals as goal
 
 pub returns-then-h-g : goal.returns-then-h-g

@@ -1,8 +1,7 @@
 use Prim.Native.Nat.{◌+◌, ◌-◌, ◌^◌}
-use borrow.Author.Tests.{ne_eqb, eq-eqb, lt-ltb, le-ltb, le-leb, lt-leb}
+use borrow.Author.Tests.{ne_eqb, eq-eqb, lt-ltb, le-ltb}
 use native.Mathlib.Omega.{arith}
-use Rattle.model.specs.Memory.{region_code, overlap, contains}
-use borrow.Author.Rules.{rules}
+use Rattle.model.specs.Memory.{region_code}
 use Rattle.regions.proofs.region_code.Goals as goal
 
 pub returns-then-l-eq0 : goal.returns-then-l-eq0

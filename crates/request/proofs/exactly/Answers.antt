@@ -1,5 +1,5 @@
 use Rattle.model.proofs.Tests.{tests}
-use Rattle.model.specs.Request.{fits, in_ok, out_ok, exactly, verdict, status, reported, decided}
+use Rattle.model.specs.Request.{exactly}
 use Rattle.request.proofs.exactly.Goals as goal
 
 pub returns-then-r-ne16 : goal.returns-then-r-ne16

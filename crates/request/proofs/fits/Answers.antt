@@ -1,5 +1,5 @@
 use Rattle.model.proofs.Tests.{tests}
-use Rattle.model.specs.Request.{fits, in_ok, out_ok, exactly, verdict, status, reported, decided}
+use Rattle.model.specs.Request.{fits}
 use Rattle.request.proofs.fits.Goals as goal
 
 pub returns-then-n-ne0 : goal.returns-then-n-ne0

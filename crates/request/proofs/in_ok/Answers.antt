@@ -1,6 +1,5 @@
 use Rattle.model.proofs.Tests.{tests}
-use Rattle.model.specs.Request.{fits, in_ok, out_ok, exactly, verdict, status, reported, decided}
-use borrow.Author.Rules.{rules}
+use Rattle.model.specs.Request.{in_ok}
 use Rattle.request.proofs.in_ok.Goals as goal
 
 pub returns-then-r-ne16 : goal.returns-then-r-ne16

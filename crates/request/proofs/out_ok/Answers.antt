@@ -1,7 +1,6 @@
 use Rattle.model.proofs.Tests.{tests}
-use Rattle.model.specs.Request.{fits, in_ok, out_ok, exactly, verdict, status, reported, decided}
-use mathlib.Core.Path.{◌≡◌, refl, sym, ◌∙◌, ap}
-use borrow.Author.Rules.{rules}
+use Rattle.model.specs.Request.{out_ok}
+use mathlib.Core.Path.{sym, ◌∙◌}
 use Rattle.request.proofs.out_ok.Goals as goal
 
 pub returns-then-w-ne1 : goal.returns-then-w-ne1

@@ -1,5 +1,5 @@
 use Rattle.model.proofs.Tests.{tests}
-use Rattle.model.specs.Request.{fits, in_ok, out_ok, exactly, verdict, status, reported, decided}
+use Rattle.model.specs.Request.{reported}
 use Rattle.request.proofs.reported.Goals as goal
 
 pub returns-then-status-eq0 : goal.returns-then-status-eq0

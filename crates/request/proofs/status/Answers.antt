@@ -1,6 +1,5 @@
 use Rattle.model.proofs.Tests.{tests}
-use Rattle.model.specs.Request.{fits, in_ok, out_ok, exactly, verdict, status, reported, decided}
-use borrow.Author.Rules.{rules}
+use Rattle.model.specs.Request.{status}
 use Rattle.request.proofs.status.Goals as goal
 
 pub returns-in-Failed : goal.returns-in-Failed

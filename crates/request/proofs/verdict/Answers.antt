@@ -1,7 +1,6 @@
-use mathlib.Core.Path.{◌≡◌, refl, sym, ◌∙◌, ap}
+use mathlib.Core.Path.{sym, ◌∙◌}
 use Rattle.model.proofs.Tests.{tests}
-use Rattle.model.specs.Request.{fits, in_ok, out_ok, exactly, verdict, status, reported, decided}
-use borrow.Author.Rules.{rules}
+use Rattle.model.specs.Request.{verdict}
 use Rattle.request.proofs.verdict.Goals as goal
 
 pub returns-then-r-lt16 : goal.returns-then-r-lt16

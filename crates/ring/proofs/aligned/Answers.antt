@@ -1,5 +1,5 @@
 use Rattle.model.proofs.Tests.{tests}
-use Rattle.model.specs.Ring.{queue_size_ok, aligned, entangled, areas, pending, plus_one, polled, headed}
+use Rattle.model.specs.Ring.{aligned}
 use Rattle.ring.proofs.aligned.Goals as goal
 
 pub returns-then-desc-ne0 : goal.returns-then-desc-ne0

@@ -1,8 +1,7 @@
-use mathlib.Core.Path.{◌≡◌, refl, sym, ◌∙◌, ap}
+use mathlib.Core.Path.{sym, ◌∙◌}
 use native.Mathlib.Omega.{arith}
-use Rattle.model.specs.Ring.{queue_size_ok, aligned, entangled, placed, areas, pending, plus_one, polled, headed}
+use Rattle.model.specs.Ring.{areas}
 use Rattle.model.proofs.Ring.{size-range}
-use borrow.Author.Rules.{rules}
 use Rattle.ring.proofs.areas.Goals as goal
 
 pub overflow_mul-q : goal.overflow_mul-q

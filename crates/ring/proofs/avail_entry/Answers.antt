@@ -1,6 +1,5 @@
 use native.Mathlib.Omega.{arith}
 use native.Mathlib.Nat.{mod-lt}
-use borrow.Author.Rules.{rules}
 use Rattle.ring.proofs.avail_entry.Goals as goal
 
 pub overflow_mul-taken : goal.overflow_mul-taken

@@ -1,6 +1,4 @@
-use Rattle.model.proofs.Tests.{tests}
-use Rattle.model.specs.Ring.{queue_size_ok, aligned, entangled, areas, pending, plus_one, polled, headed}
-use borrow.Author.Rules.{rules}
+use Rattle.model.specs.Ring.{entangled}
 use Rattle.ring.proofs.entangled.Goals as goal
 
 pub returns-then-overlaps : goal.returns-then-overlaps

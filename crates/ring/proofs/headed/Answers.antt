@@ -1,5 +1,5 @@
 use Rattle.model.proofs.Tests.{tests}
-use Rattle.model.specs.Ring.{queue_size_ok, aligned, entangled, areas, pending, plus_one, polled, headed}
+use Rattle.model.specs.Ring.{headed}
 use Rattle.ring.proofs.headed.Goals as goal
 
 pub returns-then-q-head : goal.returns-then-q-head

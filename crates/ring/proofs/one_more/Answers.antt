@@ -1,4 +1,4 @@
-use Rattle.model.specs.Ring.{queue_size_ok, aligned, entangled, areas, pending, plus_one, polled, headed}
+use Rattle.model.specs.Ring.{plus_one}
 use borrow.Author.Rules.{rules}
 use Rattle.ring.proofs.one_more.Goals as goal
 

@@ -1,4 +1,4 @@
-use Rattle.model.specs.Ring.{queue_size_ok, aligned, entangled, areas, pending, plus_one, polled, headed}
+use Rattle.model.specs.Ring.{pending}
 use borrow.Author.Rules.{rules}
 use Rattle.ring.proofs.pending.Goals as goal
 

@@ -1,5 +1,4 @@
-use Rattle.model.specs.Ring.{queue_size_ok, aligned, entangled, placed, areas, pending, plus_one, polled, headed}
-use borrow.Author.Rules.{rules}
+use Rattle.model.specs.Ring.{placed}
 use Rattle.ring.proofs.placed.Goals as goal
 
 pub returns-in_default : goal.returns-in_default

@@ -1,7 +1,5 @@
-use borrow.Author.Tests.{ne_eqb, eq-eqb, lt-ltb, le-ltb, le-leb, lt-leb, leb-false}
-use Rattle.model.proofs.Tests.{tests}
-use Rattle.model.specs.Ring.{queue_size_ok, aligned, entangled, areas, pending, plus_one, polled, headed}
-use borrow.Author.Rules.{rules}
+use borrow.Author.Tests.{ne_eqb, eq-eqb, lt-ltb, le-ltb}
+use Rattle.model.specs.Ring.{polled}
 use Rattle.ring.proofs.polled.Goals as goal
 
 pub returns-then-n-eq0 : goal.returns-then-n-eq0

@@ -1,5 +1,5 @@
 use Rattle.model.proofs.Tests.{tests}
-use Rattle.model.specs.Ring.{among, queue_size_ok, aligned, entangled, areas, pending, plus_one, polled, headed}
+use Rattle.model.specs.Ring.{among, queue_size_ok}
 use Rattle.ring.proofs.size_ok.Goals as goal
 
 pub returns-then-q-eq1 : goal.returns-then-q-eq1

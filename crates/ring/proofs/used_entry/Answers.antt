@@ -1,8 +1,7 @@
 use native.Mathlib.Omega.{arith}
 use native.Mathlib.Nat.{mod-lt}
-use Rattle.model.specs.Bytes.{put, bytes}
+use Rattle.model.specs.Bytes.{bytes}
 use Rattle.model.proofs.Lists.{put-put}
-use borrow.Author.Rules.{rules}
 use Rattle.ring.proofs.used_entry.Goals as goal
 
 pub overflow_mul-at : goal.overflow_mul-at

@@ -1,11 +1,5 @@
-use Prim.Native.Nat.{◌≤◌, ◌+◌, ◌-◌, ◌*◌}
-use lib.ListN.{length, take, drop}
-use borrow.Author.Rules.{rules}
-use native.Mathlib.Omega.{arith}
-use mathlib.Core.Path.{◌≡◌, refl, sym, ◌∙◌, ap}
-use Rattle.model.specs.Sane.{walk_ok, full_ok, job_ok, sane, inside, all_inside, place_is_ok, ready}
-use Rattle.model.proofs.Sane.{full-ok, header_ok, payload-ok, answer_ok, place_ok, inside-turn, inside-end}
-use Rattle.model.specs.Step.{spans}
+use mathlib.Core.Path.{refl, sym, ◌∙◌}
+use Rattle.model.proofs.Sane.{inside-turn, inside-end}
 use Rattle.sane.proofs.all_inside.Goals as goal
 
 pub loop-i-init : goal.loop-i-init

@@ -1,10 +1,6 @@
-use Prim.Native.Nat.{◌≤◌, ◌+◌, ◌-◌, ◌*◌}
-use lib.ListN.{length, take, drop}
-use borrow.Author.Rules.{rules}
-use native.Mathlib.Omega.{arith}
-use mathlib.Core.Path.{◌≡◌, refl, sym, ◌∙◌, ap}
-use Rattle.model.specs.Sane.{walk_ok, full_ok, job_ok, sane, inside, all_inside, place_is_ok, ready}
-use Rattle.model.proofs.Sane.{full-ok, header_ok, payload-ok, answer_ok, place_ok, inside-turn, inside-end}
+use Prim.Native.Nat.{◌-◌}
+use mathlib.Core.Path.{◌≡◌}
+use Rattle.model.specs.Sane.{all_inside}
 use Rattle.model.specs.Step.{spans}
 use Rattle.sane.proofs.all_inside.Given as goal
 

@@ -1,5 +1,4 @@
-use Rattle.model.specs.Sane.{walk_ok, full_ok, job_ok, sane, inside, all_inside, place_is_ok, ready}
-use borrow.Author.Rules.{rules}
+use Rattle.model.specs.Sane.{ready}
 use Rattle.sane.proofs.answer_ready.Goals as goal
 
 pub returns-then-all_inside : goal.returns-then-all_inside

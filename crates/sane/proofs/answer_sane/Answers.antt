@@ -1,8 +1,7 @@
 use Rattle.model.proofs.Tests.{tests}
-use mathlib.Core.Path.{◌≡◌, refl, sym, ◌∙◌, ap}
-use Rattle.model.specs.Sane.{walk_ok, full_ok, job_ok, sane, inside, all_inside, place_is_ok, ready}
-use Rattle.model.proofs.Sane.{full-ok, header_ok, payload-ok, answer_ok, place_ok, inside-turn, inside-end}
-use borrow.Author.Rules.{rules}
+use mathlib.Core.Path.{sym, ◌∙◌}
+use Rattle.model.specs.Sane.{sane}
+use Rattle.model.proofs.Sane.{full-ok}
 use Rattle.sane.proofs.answer_sane.Goals as goal
 
 pub returns-then-k-got : goal.returns-then-k-got

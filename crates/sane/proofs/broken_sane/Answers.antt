@@ -1,6 +1,5 @@
 use Rattle.model.proofs.Tests.{tests}
-use Rattle.model.specs.Sane.{walk_ok, full_ok, job_ok, sane, inside, all_inside, place_is_ok, ready}
-use borrow.Author.Rules.{rules}
+use Rattle.model.specs.Sane.{sane}
 use Rattle.sane.proofs.broken_sane.Goals as goal
 
 pub returns-then-reason-lt1 : goal.returns-then-reason-lt1

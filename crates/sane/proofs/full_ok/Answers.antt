@@ -1,7 +1,6 @@
 use Rattle.model.proofs.Tests.{tests}
-use mathlib.Core.Path.{◌≡◌, refl, sym, ◌∙◌, ap}
-use Rattle.model.specs.Sane.{walk_ok, full_ok, job_ok, sane, inside, all_inside, place_is_ok, ready}
-use borrow.Author.Rules.{rules}
+use mathlib.Core.Path.{sym, ◌∙◌}
+use Rattle.model.specs.Sane.{full_ok}
 use Rattle.sane.proofs.full_ok.Goals as goal
 
 pub returns-then-k : goal.returns-then-k

@@ -1,6 +1,6 @@
-use borrow.Author.Tests.{ne_eqb, eq-eqb, lt-ltb, le-ltb, le-leb, lt-leb, leb-false}
+use borrow.Author.Tests.{le-leb, lt-leb}
 use native.Mathlib.Omega.{arith}
-use Rattle.model.specs.Sane.{walk_ok, full_ok, job_ok, sane, inside, all_inside, place_is_ok, ready}
+use Rattle.model.specs.Sane.{inside}
 use Prim.Native.Nat.{◌+◌}
 use Rattle.sane.proofs.inside.Goals as goal
 

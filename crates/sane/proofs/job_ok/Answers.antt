@@ -1,6 +1,5 @@
 use Rattle.model.proofs.Tests.{tests}
-use Rattle.model.specs.Sane.{walk_ok, full_ok, job_ok, sane, inside, all_inside, place_is_ok, ready}
-use borrow.Author.Rules.{rules}
+use Rattle.model.specs.Sane.{job_ok}
 use Rattle.sane.proofs.job_ok.Goals as goal
 
 pub returns-in-Failed : goal.returns-in-Failed

@@ -1,11 +1,10 @@
 use native.Mathlib.Omega.{arith}
-use mathlib.Core.Path.{◌≡◌, refl, sym, ◌∙◌, ap}
-use borrow.Author.Tests.{ne_eqb, eq-eqb, lt-ltb, le-ltb, le-leb, lt-leb, leb-false}
-use Rattle.model.specs.Sane.{walk_ok, full_ok, job_ok, sane, inside, all_inside, place_is_ok, ready}
-use Rattle.model.proofs.Sane.{full-ok, header_ok, payload-ok, answer_ok, place_ok, inside-turn, inside-end}
+use mathlib.Core.Path.{sym, ◌∙◌}
+use borrow.Author.Tests.{le-leb, lt-leb}
+use Rattle.model.specs.Sane.{ready}
+use Rattle.model.proofs.Sane.{place_ok}
 use lib.ListN.{get_or}
 use Prim.Native.Nat.{◌+◌, ◌-◌, ◌*◌}
-use borrow.Author.Rules.{rules}
 use Rattle.sane.proofs.payload_ready.Goals as goal
 
 pub overflow_sub-chain : goal.overflow_sub-chain

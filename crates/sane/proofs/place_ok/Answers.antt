@@ -1,7 +1,6 @@
 use Rattle.model.proofs.Tests.{tests}
-use Rattle.model.specs.Sane.{walk_ok, full_ok, job_ok, sane, inside, all_inside, place_is_ok, ready}
-use mathlib.Core.Path.{◌≡◌, refl, sym, ◌∙◌, ap}
-use borrow.Author.Rules.{rules}
+use Rattle.model.specs.Sane.{place_is_ok}
+use mathlib.Core.Path.{sym}
 use Rattle.sane.proofs.place_ok.Goals as goal
 
 pub returns-then-p-len : goal.returns-then-p-len

@@ -1,5 +1,4 @@
-use Rattle.model.specs.Sane.{walk_ok, full_ok, job_ok, sane, inside, all_inside, place_is_ok, ready}
-use borrow.Author.Rules.{rules}
+use Rattle.model.specs.Sane.{sane}
 use Rattle.sane.proofs.sane.Goals as goal
 
 pub returns-in-Poll : goal.returns-in-Poll

@@ -1,6 +1,5 @@
 use Rattle.model.proofs.Tests.{tests}
-use Rattle.model.specs.Sane.{walk_ok, full_ok, job_ok, sane, inside, all_inside, place_is_ok, ready}
-use borrow.Author.Rules.{rules}
+use Rattle.model.specs.Sane.{walk_ok}
 use Rattle.sane.proofs.walk_ok.Goals as goal
 
 pub returns-then-q-k : goal.returns-then-q-k

@@ -1,7 +1,4 @@
-use Rattle.std.proofs.Common.{◌-◌, ◌≤◌, rules}
-use Rattle.tour.proofs.came_back.Reads as reads
-use Rattle.tour.proofs.came_back.Lts as lts
-use Rattle.std.proofs.num.wrapping_add_usize.Reads as wrapping-add-usize-reads
+use Rattle.std.proofs.Common.{◌-◌, ◌≤◌}
 use Rattle.tour.proofs.came_back.Given as goal
 
 abbrev pub invariant-loop-i : goal.invariant-loop-i

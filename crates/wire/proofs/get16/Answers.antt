@@ -1,7 +1,6 @@
 use native.Mathlib.Omega.{arith}
 use native.Mathlib.Numerals.{towards_numerals}
 use Rattle.model.specs.Bytes.{word}
-use borrow.Author.Rules.{rules}
 use Rattle.wire.proofs.get16.Goals as goal
 
 pub returns-clause-value : goal.returns-clause-value

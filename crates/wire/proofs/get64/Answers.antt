@@ -1,6 +1,5 @@
 use native.Mathlib.Omega.{arith}
 use Rattle.model.proofs.Words.{word-add}
-use borrow.Author.Rules.{rules}
 use Rattle.wire.proofs.get64.Goals as goal
 
 pub returns : goal.returns

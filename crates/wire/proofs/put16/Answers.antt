@@ -1,9 +1,8 @@
-use Rattle.model.proofs.Lists.{put-put, put-cons, put-nil}
-use Rattle.model.specs.Bytes.{put, bytes}
+use Rattle.model.proofs.Lists.{put-cons, put-nil}
+use Rattle.model.specs.Bytes.{bytes}
 use native.Mathlib.Numerals.{add-one}
 use native.Mathlib.Omega.{arith}
 use lib.ListN.{length-set}
-use borrow.Author.Rules.{rules}
 use Rattle.wire.proofs.put16.Goals as goal
 
 pub bounds-m-k-2 : goal.bounds-m-k-2

@@ -1,6 +1,5 @@
-use Rattle.model.proofs.Lists.{put-put, put-cons, put-nil}
-use Rattle.model.specs.Bytes.{put, bytes}
-use borrow.Author.Rules.{rules}
+use Rattle.model.proofs.Lists.{put-put}
+use Rattle.model.specs.Bytes.{bytes}
 use Rattle.wire.proofs.put32.Goals as goal
 
 pub returns : goal.returns

@@ -1,9 +1,6 @@
-use borrow.Author.Tests.{ne_eqb, eq-eqb, lt-ltb, le-ltb, le-leb, lt-leb}
-use native.Mathlib.Omega.{arith}
-use Rattle.words.specs.Layout.{job_tag, job_sector, row, row_of, job_of, phase_of, row_at, row_words, saved, config_at, map_words, memory_ok, disk_ok, queue_ok, lent_ok, tags_ok, phase_ok, enabled_ok, level, ro_word}
+use borrow.Author.Tests.{ne_eqb, eq-eqb, le-leb, lt-leb}
+use Rattle.words.specs.Layout.{disk_ok, ro_word}
 use lib.ListN.{get_or}
-use mathlib.Core.Path.{◌≡◌, refl, sym, ◌∙◌, ap}
-use borrow.Author.Rules.{rules}
 use Rattle.words.proofs.disk_ok.Goals as goal
 
 pub returns-then-disk_code-ne0 : goal.returns-then-disk_code-ne0

@@ -1,7 +1,6 @@
-use Rattle.words.specs.Layout.{job_tag, job_sector, row, row_of, job_of, phase_of, row_at, row_words, saved, config_at, map_words, memory_ok, disk_ok, queue_ok, lent_ok, tags_ok, phase_ok, enabled_ok, level}
-use mathlib.Core.Path.{◌≡◌, refl, sym, ◌∙◌, ap}
+use Rattle.words.specs.Layout.{enabled_ok}
+use mathlib.Core.Path.{sym, ◌∙◌}
 use Rattle.words.proofs.Laws.{queue-ok}
-use borrow.Author.Rules.{rules}
 use Rattle.words.proofs.enabled_ok.Goals as goal
 
 pub phase_ok-requires-clause-state_words_in_bounds : goal.phase_ok-requires-clause-state_words_in_bounds

@@ -1,6 +1,5 @@
 use borrow.Author.Tests.{eq-eqb, ne_eqb}
 use Rattle.words.specs.Layout.{framed}
-use borrow.Author.Rules.{rules}
 use Rattle.words.proofs.framed.Goals as goal
 
 pub returns-then-disk_ok : goal.returns-then-disk_ok

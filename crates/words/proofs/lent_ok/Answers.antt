@@ -1,6 +1,5 @@
 use Rattle.model.proofs.Tests.{tests}
-use Rattle.words.specs.Layout.{job_tag, job_sector, row, row_of, job_of, phase_of, row_at, row_words, saved, config_at, map_words, memory_ok, disk_ok, queue_ok, lent_ok, tags_ok, phase_ok, enabled_ok, level}
-use borrow.Author.Rules.{rules}
+use Rattle.words.specs.Layout.{lent_ok}
 use Rattle.words.proofs.lent_ok.Goals as goal
 
 pub returns-then-chain-q : goal.returns-then-chain-q

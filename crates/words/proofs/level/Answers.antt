@@ -1,6 +1,5 @@
-use Rattle.words.specs.Layout.{job_tag, job_sector, row, row_of, job_of, phase_of, row_at, row_words, saved, config_at, map_words, memory_ok, disk_ok, queue_ok, lent_ok, tags_ok, phase_ok, enabled_ok, level}
-use borrow.Author.Tests.{ne_eqb, eq-eqb, lt-ltb, le-ltb, le-leb, lt-leb}
-use borrow.Author.Rules.{rules}
+use Rattle.words.specs.Layout.{level}
+use borrow.Author.Tests.{ne_eqb, eq-eqb}
 use Rattle.words.proofs.level.Goals as goal
 
 pub returns-then-tag-eq1 : goal.returns-then-tag-eq1

@@ -1,13 +1,10 @@
-use borrow.Author.Tests.{ne_eqb, eq-eqb, lt-ltb, le-ltb, le-leb, lt-leb}
+use borrow.Author.Tests.{le-leb, lt-leb}
 use native.Mathlib.Omega.{arith}
 use Rattle.model.specs.Memory.{regions_max}
 use Rattle.words.proofs.Laws.{map-long}
-use Rattle.words.specs.Layout.{job_tag, job_sector, row, row_of, job_of, phase_of, row_at, row_words, saved, config_at, map_words, memory_ok, disk_ok, queue_ok, lent_ok, tags_ok, phase_ok, enabled_ok, level, regions_word}
+use Rattle.words.specs.Layout.{memory_ok, regions_word}
 use lib.ListN.{get_or}
-use Prim.Native.Nat.{◌+◌, ◌-◌, ◌*◌, ◌^◌}
-use mathlib.Core.Path.{◌≡◌, refl, sym, ◌∙◌, ap}
 use Rattle.model.specs.Bytes.{part}
-use borrow.Author.Rules.{rules}
 use Rattle.words.proofs.memory_ok.Goals as goal
 
 pub returns-then-n-lt1 : goal.returns-then-n-lt1

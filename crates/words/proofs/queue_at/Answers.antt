@@ -1,6 +1,5 @@
 use Rattle.model.proofs.Tests.{tests}
 use Rattle.words.specs.Layout.{config_at}
-use borrow.Author.Rules.{rules}
 use Rattle.words.proofs.queue_at.Goals as goal
 
 pub returns : goal.returns

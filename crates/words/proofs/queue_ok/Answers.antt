@@ -1,8 +1,7 @@
-use mathlib.Core.Path.{◌≡◌, refl, sym, ◌∙◌, ap}
+use mathlib.Core.Path.{sym, ◌∙◌}
 use native.Mathlib.Omega.{arith}
-use Rattle.words.specs.Layout.{job_tag, job_sector, row, row_of, job_of, phase_of, row_at, row_words, saved, config_at, map_words, memory_ok, disk_ok, queue_ok, lent_ok, tags_ok, phase_ok, enabled_ok, level}
+use Rattle.words.specs.Layout.{queue_ok}
 use Rattle.model.proofs.Ring.{size-range}
-use borrow.Author.Rules.{rules}
 use Rattle.words.proofs.queue_ok.Goals as goal
 
 pub overflow_mul-q : goal.overflow_mul-q

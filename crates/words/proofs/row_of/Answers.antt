@@ -1,5 +1,4 @@
 use Rattle.words.specs.Layout.{row_of}
-use borrow.Author.Rules.{rules}
 use Rattle.words.proofs.row_of.Goals as goal
 
 pub returns-in-Poll : goal.returns-in-Poll

@@ -2,7 +2,6 @@ use native.Mathlib.Omega.{arith}
 use lib.ListN.{length-set}
 use mathlib.Core.Path.{◌∙◌}
 use Rattle.words.proofs.Saved.{saved-row}
-use borrow.Author.Rules.{rules}
 use Rattle.words.proofs.save.Goals as goal
 
 pub bounds-s-17 : goal.bounds-s-17

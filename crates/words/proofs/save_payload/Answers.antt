@@ -1,7 +1,6 @@
 use mathlib.Core.Path.{◌∙◌}
 use Rattle.words.specs.Layout.{row_of}
 use Rattle.words.proofs.Saved.{kept_row}
-use borrow.Author.Rules.{rules}
 use Rattle.words.proofs.save_payload.Goals as goal
 
 pub returns : goal.returns

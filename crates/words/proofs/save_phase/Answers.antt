@@ -1,6 +1,5 @@
 use mathlib.Core.Path.{◌∙◌}
 use Rattle.words.proofs.Saved.{kept_row}
-use borrow.Author.Rules.{rules}
 use Rattle.words.proofs.save_phase.Goals as goal
 
 pub returns : goal.returns

@@ -2,7 +2,6 @@ use native.Mathlib.Omega.{arith}
 use lib.ListN.{length-set}
 use Rattle.words.specs.Layout.{row_words}
 use Rattle.model.proofs.Lists.{put-cons, put-nil}
-use borrow.Author.Rules.{rules}
 use Rattle.words.proofs.save_row.Goals as goal
 
 pub bounds-s-19 : goal.bounds-s-19

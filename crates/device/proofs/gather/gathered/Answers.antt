@@ -1,6 +1,5 @@
-use borrow.Author.Tests.{ne_eqb, eq-eqb, lt-ltb, le-ltb, le-leb, lt-leb}
-use Rattle.model.specs.Step.{code_after, onward, gathered, paid, ends}
-use borrow.Author.Rules.{rules}
+use borrow.Author.Tests.{lt-ltb, le-ltb}
+use Rattle.model.specs.Step.{gathered}
 use Rattle.device.proofs.gather.gathered.Goals as goal
 
 pub returns-then-got-n-lt16 : goal.returns-then-got-n-lt16

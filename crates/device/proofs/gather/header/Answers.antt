@@ -1,4 +1,3 @@
-use borrow.Author.Rules.{rules}
 use Rattle.device.proofs.gather.header.Goals as goal
 
 pub returns-clause-stage_after : goal.returns-clause-stage_after

@@ -1,6 +1,5 @@
 use Rattle.model.proofs.Tests.{tests}
-use Rattle.model.specs.Step.{code_after, onward, gathered, paid, ends}
-use borrow.Author.Rules.{rules}
+use Rattle.model.specs.Step.{onward}
 use Rattle.device.proofs.gather.onward.Goals as goal
 
 pub returns-then-n-l : goal.returns-then-n-l

@@ -1,6 +1,5 @@
-use borrow.Author.Tests.{ne_eqb, eq-eqb, lt-ltb, le-ltb, le-leb, lt-leb}
-use Rattle.model.specs.Step.{code_after, onward, gathered, paid, ends}
-use borrow.Author.Rules.{rules}
+use borrow.Author.Tests.{ne_eqb, eq-eqb}
+use Rattle.model.specs.Step.{paid, ends}
 use Rattle.device.proofs.gather.payload.Goals as goal
 
 pub returns-then-got-l-clause-value : goal.returns-then-got-l-clause-value

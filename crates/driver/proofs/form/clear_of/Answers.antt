@@ -1,13 +1,5 @@
-use Rattle.driver.specs.Lay.{span, queue_in, counts_ok, spot_of, spot_at, is_at, place_of, in_memory, settled, area_words, formed, measured, form_ok, clear_of, separate}
-use mathlib.Core.Path.{◌≡◌, refl, sym, ◌∙◌, ap}
-use native.Mathlib.Omega.{arith}
-use borrow.Author.Rules.{rules}
-use Prim.Native.Nat.{◌≤◌, ◌+◌, ◌-◌, ◌*◌, ◌/◌, ◌<◌}
-use Rattle.model.specs.Step.{spans}
+use mathlib.Core.Path.{refl, sym, ◌∙◌}
 use Rattle.driver.proofs.Laws.{clear-turn, clear-end}
-use Rattle.driver.proofs.form.clear_of.Reads as reads
-use Rattle.driver.proofs.form.clear_of.Lts as lts
-use Rattle.regions.proofs.overlaps.Reads as overlaps-reads
 use Rattle.driver.proofs.form.clear_of.Goals as goal
 
 -- src/form.rt:62:5

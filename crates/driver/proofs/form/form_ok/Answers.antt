@@ -1,13 +1,8 @@
-use Rattle.driver.specs.Lay.{form_ok, formed, measured}
-use mathlib.Core.Path.{◌≡◌, refl, sym, ◌∙◌, ap}
+use Rattle.driver.specs.Lay.{form_ok}
+use mathlib.Core.Path.{◌≡◌}
 use native.Mathlib.Omega.{arith}
 use Prim.Native.Nat.{◌-◌}
 use borrow.Author.Tests.{eq-eqb, ne_eqb}
-use borrow.Author.Rules.{rules}
-use Rattle.driver.proofs.form.form_ok.Reads as reads
-use Rattle.driver.proofs.form.form_ok.Lts as lts
-use Rattle.driver.proofs.form.formed.Reads as formed-reads
-use Rattle.driver.proofs.form.measure.Reads as measure-reads
 use Rattle.driver.proofs.form.form_ok.Goals as goal
 
 -- src/form.rt:51:9

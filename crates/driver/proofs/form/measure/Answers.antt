@@ -1,13 +1,6 @@
-use Rattle.driver.specs.Lay.{span, queue_in, counts_ok, spot_of, spot_at, is_at, place_of, in_memory, settled, area_words, formed, measured, form_ok, clear_of, separate}
-use mathlib.Core.Path.{◌≡◌, refl, sym, ◌∙◌, ap}
+use Rattle.driver.specs.Lay.{measured}
 use native.Mathlib.Omega.{arith}
-use borrow.Author.Rules.{rules}
-use Prim.Native.Nat.{◌≤◌, ◌+◌, ◌-◌, ◌*◌, ◌/◌, ◌<◌}
-use Rattle.model.specs.Step.{spans}
-use Rattle.requests.specs.Serve.{total}
 use Rattle.driver.proofs.Laws.{total-turn, total-end}
-use Rattle.driver.proofs.form.measure.Reads as reads
-use Rattle.driver.proofs.form.measure.Lts as lts
 use Rattle.driver.proofs.form.measure.Goals as goal
 
 -- src/form.rt:16:5

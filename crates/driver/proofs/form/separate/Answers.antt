@@ -1,13 +1,7 @@
-use Rattle.driver.specs.Lay.{span, clear_of, separate}
-use mathlib.Core.Path.{◌≡◌, refl, sym, ◌∙◌, ap}
+use mathlib.Core.Path.{◌≡◌, refl, sym, ◌∙◌}
 use native.Mathlib.Omega.{arith}
-use borrow.Author.Rules.{rules}
-use Prim.Native.Nat.{◌≤◌, ◌+◌, ◌-◌, ◌*◌, ◌/◌, ◌<◌}
-use Rattle.model.specs.Step.{spans}
+use Prim.Native.Nat.{◌-◌}
 use Rattle.driver.proofs.Laws.{separate-turn, separate-end}
-use Rattle.driver.proofs.form.separate.Reads as reads
-use Rattle.driver.proofs.form.separate.Lts as lts
-use Rattle.driver.proofs.form.clear_of.Reads as clear-of-reads
 use Rattle.driver.proofs.form.separate.Goals as goal
 
 -- src/form.rt:77:5

@@ -1,13 +1,7 @@
-use mathlib.Core.Path.{◌≡◌, refl, sym, ◌∙◌, ap}
-use Rattle.driver.specs.Lay.{attached_with, attached, publish_code, published, lay, lay_on}
-use borrow.Author.Tests.{eq-eqb, ne_eqb, lt-ltb, le-ltb, le-leb, lt-leb}
+use mathlib.Core.Path.{sym, ◌∙◌}
+use Rattle.driver.specs.Lay.{attached}
+use borrow.Author.Tests.{eq-eqb, ne_eqb}
 use Rattle.model.proofs.Memory.{mapped}
-use borrow.Author.Rules.{rules}
-use Rattle.driver.proofs.laying.attach.Reads as reads
-use Rattle.driver.proofs.laying.attach.Lts as lts
-use Rattle.driver.proofs.laying.attached_with.Reads as attached-with-reads
-use Rattle.regions.proofs.memory_code.Reads as memory-code-reads
-use Rattle.ring.proofs.areas.Reads as areas-reads
 use Rattle.driver.proofs.laying.attach.Goals as goal
 
 -- src/laying.rt:48:9

@@ -1,9 +1,5 @@
-use mathlib.Core.Path.{◌≡◌, refl, sym, ◌∙◌, ap}
-use Rattle.driver.specs.Lay.{attached_with, attached, publish_code, published, lay, lay_on}
-use borrow.Author.Tests.{eq-eqb, ne_eqb, lt-ltb, le-ltb, le-leb, lt-leb}
-use borrow.Author.Rules.{rules}
-use Rattle.driver.proofs.laying.attached_with.Reads as reads
-use Rattle.driver.proofs.laying.attached_with.Lts as lts
+use Rattle.driver.specs.Lay.{attached_with}
+use borrow.Author.Tests.{le-leb, lt-leb}
 use Rattle.driver.proofs.laying.attached_with.Goals as goal
 
 -- src/laying.rt:23:17

@@ -1,15 +1,8 @@
-use mathlib.Core.Path.{◌≡◌, refl, sym, ◌∙◌, ap}
-use Rattle.driver.specs.Lay.{attached_with, attached, publish_code, published, lay, lay_on}
-use borrow.Author.Tests.{eq-eqb, ne_eqb, lt-ltb, le-ltb, le-leb, lt-leb}
+use mathlib.Core.Path.{refl}
+use Rattle.driver.specs.Lay.{lay, lay_on}
+use borrow.Author.Tests.{eq-eqb, ne_eqb}
 use native.Mathlib.Omega.{arith}
 use Rattle.driver.proofs.Fits.{laid-fits, fit-notes, fit-writes, one-more-mod}
-use borrow.Author.Rules.{rules}
-use Rattle.driver.proofs.laying.lay.Reads as reads
-use Rattle.driver.proofs.laying.lay.Lts as lts
-use Rattle.driver.proofs.plan.plan.Reads as plan-reads
-use Rattle.driver.proofs.writes.note.Reads as note-reads
-use Rattle.driver.proofs.writes.write.Reads as write-reads
-use Rattle.ring.proofs.one_more.Reads as one-more-reads
 use Rattle.driver.proofs.laying.lay.Goals as goal
 
 -- src/laying.rt:83:9

@@ -1,12 +1,7 @@
-use mathlib.Core.Path.{◌≡◌, refl, sym, ◌∙◌, ap}
-use Rattle.driver.specs.Lay.{attached_with, attached, publish_code, published, lay, lay_on}
+use mathlib.Core.Path.{refl, sym, ◌∙◌}
+use Rattle.driver.specs.Lay.{publish_code, published}
 use native.Mathlib.Omega.{arith}
 use Rattle.driver.proofs.Laws.{queue-ok}
-use borrow.Author.Rules.{rules}
-use Rattle.driver.proofs.laying.publish.Reads as reads
-use Rattle.driver.proofs.laying.publish.Lts as lts
-use Rattle.driver.proofs.room.queue_in.Reads as queue-in-reads
-use Rattle.wire.proofs.put16.Reads as put16-reads
 use Rattle.driver.proofs.laying.publish.Goals as goal
 
 -- src/laying.rt:105:26

@@ -1,18 +1,9 @@
-use mathlib.Core.Path.{◌≡◌, refl, sym, ◌∙◌, ap}
-use Rattle.driver.specs.Lay.{header, descriptor, flags_of, next_of, link, links, free, noted, marked, ready, queue_in}
+use mathlib.Core.Path.{◌≡◌, refl, sym, ◌∙◌}
+use Rattle.driver.specs.Lay.{free}
 use native.Mathlib.Omega.{arith}
-use borrow.Author.Rules.{rules}
-use Prim.Native.Nat.{◌≤◌, ◌+◌, ◌-◌, ◌*◌, ◌/◌, ◌<◌, min}
-use lib.ListN.{length, get_or, take, length-take}
-use Rattle.model.proofs.Lists.{put-nil}
-use Rattle.model.specs.Bytes.{put}
-use borrow.Author.Tests.{le-leb, lt-leb}
+use lib.ListN.{length}
 use Rattle.driver.proofs.Laws.{choose-start, choose-turn, min-leb}
 use native.Mathlib.Numerals.{add-one}
-use lib.Dec.{leb}
-use Rattle.driver.proofs.plan.choose.Reads as reads
-use Rattle.driver.proofs.plan.choose.Lts as lts
-use Rattle.driver.proofs.plan.note.Reads as note-reads
 use Rattle.driver.proofs.plan.choose.Goals as goal
 
 -- src/plan.rt:40:5

@@ -1,12 +1,8 @@
-use Rattle.model.proofs.Tests.{tests, told}
-use Rattle.driver.specs.Lay.{header, descriptor, flags_of, next_of, link, links, free, noted, marked, ready, queue_in}
-use mathlib.Core.Path.{◌≡◌, refl, sym, ◌∙◌, ap}
+use Rattle.driver.specs.Lay.{noted}
+use mathlib.Core.Path.{refl, sym}
 use native.Mathlib.Omega.{arith}
 use Rattle.model.proofs.Lists.{put_one, put-nil}
 use borrow.Author.Tests.{eq-eqb, ne_eqb, lt-ltb, le-ltb}
-use borrow.Author.Rules.{rules}
-use Rattle.driver.proofs.plan.note.Reads as reads
-use Rattle.driver.proofs.plan.note.Lts as lts
 use Rattle.driver.proofs.plan.note.Goals as goal
 
 -- src/plan.rt:24:13

@@ -1,15 +1,7 @@
-use mathlib.Core.Path.{◌≡◌, refl, sym, ◌∙◌, ap}
+use mathlib.Core.Path.{refl, sym, ◌∙◌}
 use native.Mathlib.Omega.{arith}
-use borrow.Author.Rules.{rules}
 use Rattle.driver.specs.Lay.{plan, spots_of}
 use Rattle.driver.proofs.Laws.{ready-ok, counts-ok}
-use Rattle.driver.proofs.plan.plan.Reads as reads
-use Rattle.driver.proofs.plan.plan.Lts as lts
-use Rattle.driver.proofs.plan.plan_on.Reads as plan-on-reads
-use Rattle.driver.proofs.room.counts_ok.Reads as counts-ok-reads
-use Rattle.driver.proofs.room.note_areas.Reads as note-areas-reads
-use Rattle.driver.proofs.room.ready.Reads as ready-reads
-use Rattle.driver.proofs.room.settle.Reads as settle-reads
 use Rattle.driver.proofs.plan.plan.Goals as goal
 
 -- src/plan.rt:92:12

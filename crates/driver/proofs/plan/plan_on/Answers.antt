@@ -1,11 +1,5 @@
-use borrow.Author.Rules.{rules}
-use mathlib.Core.Path.{◌≡◌, refl, sym, ◌∙◌, ap}
+use mathlib.Core.Path.{refl}
 use Rattle.driver.specs.Lay.{plan_on}
-use Rattle.driver.proofs.plan.plan_on.Reads as reads
-use Rattle.driver.proofs.plan.plan_on.Lts as lts
-use Rattle.driver.proofs.form.form_ok.Reads as form-ok-reads
-use Rattle.driver.proofs.form.separate.Reads as separate-reads
-use Rattle.driver.proofs.plan.choose.Reads as choose-reads
 use Rattle.driver.proofs.plan.plan_on.Goals as goal
 
 -- src/plan.rt:67:17

@@ -1,20 +1,9 @@
-use mathlib.Core.Path.{◌≡◌, refl, sym, ◌∙◌, ap}
-use Rattle.driver.specs.Take.{used_idx, outstanding, freed, released, countable, judged, used_word, taken, own_after, spots_in, status_of, data_of}
+use mathlib.Core.Path.{◌≡◌, refl, sym, ◌∙◌}
 use native.Mathlib.Omega.{arith}
-use Rattle.driver.proofs.Answers.{released-turn, gather-turn, gather-end, spots-in-ok, countable-ok}
-use borrow.Author.Rules.{rules}
-use Prim.Native.Nat.{◌≤◌, ◌+◌, ◌-◌, ◌*◌, ◌/◌, ◌<◌, min}
-use lib.ListN.{length, take, get_or}
-use Rattle.model.specs.Bytes.{put, part}
-use Rattle.model.specs.Step.{spans}
-use Rattle.model.specs.Sane.{all_inside}
-use mathlib.Core.Bool.{true}
-use Rattle.requests.specs.Serve.{gather}
+use Rattle.driver.proofs.Answers.{gather-turn, gather-end}
+use Prim.Native.Nat.{◌+◌, ◌-◌, ◌*◌, min}
+use lib.ListN.{length, get_or}
 use Rattle.model.proofs.Sane.{inside-here, inside-rest}
-use Rattle.driver.proofs.reading.collect.Reads as reads
-use Rattle.driver.proofs.reading.collect.Lts as lts
-use Rattle.answer.proofs.smaller.Reads as smaller-reads
-use Rattle.moves.proofs.copy.Reads as copy-reads
 use Rattle.driver.proofs.reading.collect.Goals as goal
 
 -- src/reading.rt:173:5

@@ -1,10 +1,5 @@
-use mathlib.Core.Path.{◌≡◌, refl, sym, ◌∙◌, ap}
-use Rattle.driver.specs.Take.{used_idx, outstanding, freed, released, countable, judged, used_word, taken, own_after, spots_in, status_of, data_of}
-use borrow.Author.Tests.{eq-eqb, ne_eqb, lt-ltb, le-ltb, le-leb, lt-leb}
-use borrow.Author.Rules.{rules}
-use Rattle.driver.proofs.reading.countable.Reads as reads
-use Rattle.driver.proofs.reading.countable.Lts as lts
-use Rattle.driver.proofs.room.queue_in.Reads as queue-in-reads
+use Rattle.driver.specs.Take.{countable}
+use borrow.Author.Tests.{lt-ltb, le-ltb, le-leb, lt-leb}
 use Rattle.driver.proofs.reading.countable.Goals as goal
 
 -- src/reading.rt:74:17

@@ -1,15 +1,7 @@
-use mathlib.Core.Path.{◌≡◌, refl, sym, ◌∙◌, ap}
-use Rattle.driver.specs.Take.{used_idx, outstanding, freed, released, countable, judged, used_word, taken, own_after, spots_in, status_of, data_of}
-use native.Mathlib.Omega.{arith}
-use Rattle.driver.proofs.Answers.{released-turn, gather-turn, gather-end, spots-in-ok, countable-ok}
-use borrow.Author.Tests.{eq-eqb, ne_eqb, lt-ltb, le-ltb, le-leb, lt-leb}
-use borrow.Author.Rules.{rules}
-use Rattle.driver.proofs.reading.judge.Reads as reads
-use Rattle.driver.proofs.reading.judge.Lts as lts
-use Rattle.driver.proofs.reading.countable.Reads as countable-reads
-use Rattle.driver.proofs.reading.outstanding.Reads as outstanding-reads
-use Rattle.ring.proofs.one_more.Reads as one-more-reads
-use Rattle.ring.proofs.pending.Reads as pending-reads
+use mathlib.Core.Path.{sym, ◌∙◌}
+use Rattle.driver.specs.Take.{judged}
+use Rattle.driver.proofs.Answers.{countable-ok}
+use borrow.Author.Tests.{eq-eqb, ne_eqb, lt-ltb, le-ltb}
 use Rattle.driver.proofs.reading.judge.Goals as goal
 
 -- src/reading.rt:43:13

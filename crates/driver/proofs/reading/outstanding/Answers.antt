@@ -1,11 +1,7 @@
-use mathlib.Core.Path.{◌≡◌, refl, sym, ◌∙◌, ap}
-use Rattle.driver.specs.Take.{used_idx, outstanding, freed, released, countable, judged, used_word, taken, own_after, spots_in, status_of, data_of}
+use Rattle.driver.specs.Take.{outstanding}
 use Rattle.model.proofs.Tests.{tests}
-use borrow.Author.Tests.{eq-eqb, ne_eqb, lt-ltb, le-ltb, le-leb, lt-leb}
+use borrow.Author.Tests.{lt-ltb}
 use native.Mathlib.Numerals.{add-one}
-use borrow.Author.Rules.{rules}
-use Rattle.driver.proofs.reading.outstanding.Reads as reads
-use Rattle.driver.proofs.reading.outstanding.Lts as lts
 use Rattle.driver.proofs.reading.outstanding.Goals as goal
 
 -- src/reading.rt:32:9

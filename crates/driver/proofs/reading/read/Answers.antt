@@ -1,12 +1,6 @@
-use mathlib.Core.Path.{◌≡◌, refl, sym, ◌∙◌, ap}
-use Rattle.driver.specs.Take.{used_idx, outstanding, freed, released, countable, judged, used_word, taken, own_after, spots_in, status_of, data_of}
-use native.Mathlib.Omega.{arith}
-use Rattle.driver.proofs.Answers.{released-turn, gather-turn, gather-end, spots-in-ok, countable-ok}
-use borrow.Author.Rules.{rules}
-use Rattle.driver.proofs.reading.read.Reads as reads
-use Rattle.driver.proofs.reading.read.Lts as lts
-use Rattle.driver.proofs.reading.collect.Reads as collect-reads
-use Rattle.driver.proofs.reading.spots_in.Reads as spots-in-reads
+use mathlib.Core.Path.{refl, sym, ◌∙◌}
+use Rattle.driver.specs.Take.{data_of}
+use Rattle.driver.proofs.Answers.{spots-in-ok}
 use Rattle.driver.proofs.reading.read.Goals as goal
 
 -- src/reading.rt:187:9

@@ -1,14 +1,7 @@
-use mathlib.Core.Path.{◌≡◌, refl, sym, ◌∙◌, ap}
-use Rattle.driver.specs.Take.{used_idx, outstanding, freed, released, countable, judged, used_word, taken, own_after, spots_in, status_of, data_of}
-use native.Mathlib.Omega.{arith}
-use Rattle.driver.proofs.Answers.{released-turn, gather-turn, gather-end, spots-in-ok, countable-ok}
-use borrow.Author.Rules.{rules}
-use Prim.Native.Nat.{◌≤◌, ◌+◌, ◌-◌, ◌*◌, ◌/◌, ◌<◌, min}
-use native.Mathlib.Numerals.{add-one}
+use mathlib.Core.Path.{◌≡◌}
+use Rattle.driver.specs.Take.{released}
+use Prim.Native.Nat.{◌≤◌, ◌-◌}
 use lib.ListN.{length}
-use Rattle.driver.proofs.reading.release.Reads as reads
-use Rattle.driver.proofs.reading.release.Lts as lts
-use Rattle.driver.proofs.reading.free_one.Reads as free-one-reads
 use Rattle.driver.proofs.reading.release.Given as goal
 
 abbrev pub invariant-loop-i : goal.invariant-loop-i

@@ -1,12 +1,6 @@
-use mathlib.Core.Path.{◌≡◌, refl, sym, ◌∙◌, ap}
-use Rattle.driver.specs.Take.{used_idx, outstanding, freed, released, countable, judged, used_word, taken, own_after, spots_in, status_of, data_of}
-use borrow.Author.Tests.{eq-eqb, ne_eqb, lt-ltb, le-ltb, le-leb, lt-leb}
+use Rattle.driver.specs.Take.{spots_in}
+use borrow.Author.Tests.{lt-ltb, le-leb}
 use Rattle.model.proofs.Tests.{tests}
-use native.Mathlib.Omega.{arith}
-use borrow.Author.Rules.{rules}
-use Rattle.driver.proofs.reading.spots_in.Reads as reads
-use Rattle.driver.proofs.reading.spots_in.Lts as lts
-use Rattle.sane.proofs.all_inside.Reads as all-inside-reads
 use Rattle.driver.proofs.reading.spots_in.Goals as goal
 
 -- src/reading.rt:139:9

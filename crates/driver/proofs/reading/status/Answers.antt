@@ -1,12 +1,7 @@
-use mathlib.Core.Path.{◌≡◌, refl, sym, ◌∙◌, ap}
-use Rattle.driver.specs.Take.{used_idx, outstanding, freed, released, countable, judged, used_word, taken, own_after, spots_in, status_of, data_of}
+use mathlib.Core.Path.{sym, ◌∙◌}
+use Rattle.driver.specs.Take.{status_of}
 use native.Mathlib.Omega.{arith}
-use Rattle.driver.proofs.Answers.{released-turn, gather-turn, gather-end, spots-in-ok, countable-ok}
-use borrow.Author.Rules.{rules}
-use Rattle.driver.proofs.reading.status.Reads as reads
-use Rattle.driver.proofs.reading.status.Lts as lts
-use Rattle.driver.proofs.reading.spots_in.Reads as spots-in-reads
-use Rattle.driver.proofs.reading.wide.Reads as wide-reads
+use Rattle.driver.proofs.Answers.{spots-in-ok}
 use Rattle.driver.proofs.reading.status.Goals as goal
 
 -- src/reading.rt:164:20

@@ -1,13 +1,7 @@
-use mathlib.Core.Path.{◌≡◌, refl, sym, ◌∙◌, ap}
-use Rattle.driver.specs.Take.{judged, used_word, taken, own_after}
+use mathlib.Core.Path.{refl, sym, ◌∙◌}
+use Rattle.driver.specs.Take.{taken, own_after}
 use native.Mathlib.Omega.{arith}
 use Rattle.driver.proofs.Answers.{judged-answer}
-use borrow.Author.Rules.{rules}
-use Rattle.driver.proofs.reading.take.Reads as reads
-use Rattle.driver.proofs.reading.take.Lts as lts
-use Rattle.driver.proofs.reading.judge.Reads as judge-reads
-use Rattle.driver.proofs.reading.release.Reads as release-reads
-use Rattle.driver.proofs.reading.used_word.Reads as used-word-reads
 use Rattle.driver.proofs.reading.take.Goals as goal
 
 -- src/reading.rt:128:41

@@ -1,12 +1,7 @@
-use mathlib.Core.Path.{◌≡◌, refl, sym, ◌∙◌, ap}
-use Rattle.driver.specs.Take.{used_idx, outstanding, freed, released, countable, judged, used_word, taken, own_after, spots_in, status_of, data_of}
+use mathlib.Core.Path.{sym, ◌∙◌}
+use Rattle.driver.specs.Take.{used_idx}
 use native.Mathlib.Omega.{arith}
 use Rattle.driver.proofs.Laws.{queue-ok}
-use borrow.Author.Rules.{rules}
-use Rattle.driver.proofs.reading.used_idx.Reads as reads
-use Rattle.driver.proofs.reading.used_idx.Lts as lts
-use Rattle.driver.proofs.room.queue_in.Reads as queue-in-reads
-use Rattle.wire.proofs.get16.Reads as get16-reads
 use Rattle.driver.proofs.reading.used_idx.Goals as goal
 
 -- src/reading.rt:22:33

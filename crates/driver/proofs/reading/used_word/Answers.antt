@@ -1,13 +1,8 @@
-use mathlib.Core.Path.{◌≡◌, refl, sym, ◌∙◌, ap}
-use Rattle.driver.specs.Take.{used_idx, outstanding, freed, released, countable, judged, used_word, taken, own_after, spots_in, status_of, data_of}
+use mathlib.Core.Path.{sym, ◌∙◌}
+use Rattle.driver.specs.Take.{used_word}
 use native.Mathlib.Omega.{arith}
 use Rattle.driver.proofs.Laws.{queue-ok}
 use native.Mathlib.Nat.{mod-lt}
-use borrow.Author.Rules.{rules}
-use Rattle.driver.proofs.reading.used_word.Reads as reads
-use Rattle.driver.proofs.reading.used_word.Lts as lts
-use Rattle.driver.proofs.room.queue_in.Reads as queue-in-reads
-use Rattle.wire.proofs.get32.Reads as get32-reads
 use Rattle.driver.proofs.reading.used_word.Goals as goal
 
 -- src/reading.rt:90:52

@@ -1,8 +1,5 @@
-use Rattle.model.proofs.Tests.{tests, told}
-use Rattle.driver.specs.Lay.{span, queue_in, counts_ok, spot_of, spot_at, is_at, place_of, in_memory, settled, area_words, formed, measured, form_ok, clear_of, separate}
-use borrow.Author.Rules.{rules}
-use Rattle.driver.proofs.room.counts_ok.Reads as reads
-use Rattle.driver.proofs.room.counts_ok.Lts as lts
+use Rattle.model.proofs.Tests.{tests}
+use Rattle.driver.specs.Lay.{counts_ok}
 use Rattle.driver.proofs.room.counts_ok.Goals as goal
 
 -- src/room.rt:37:9

@@ -1,14 +1,8 @@
-use Rattle.model.proofs.Tests.{tests, told}
-use Rattle.driver.specs.Lay.{span, queue_in, counts_ok, spot_of, spot_at, is_at, place_of, in_memory, settled, area_words, formed, measured, form_ok, clear_of, separate}
-use mathlib.Core.Path.{◌≡◌, refl, sym, ◌∙◌, ap}
+use Rattle.driver.specs.Lay.{queue_in}
+use mathlib.Core.Path.{sym, ◌∙◌}
 use native.Mathlib.Omega.{arith}
 use Rattle.model.proofs.Ring.{size-range}
 use Rattle.model.specs.Sane.{inside}
-use borrow.Author.Rules.{rules}
-use Rattle.driver.proofs.room.queue_in.Reads as reads
-use Rattle.driver.proofs.room.queue_in.Lts as lts
-use Rattle.ring.proofs.size_ok.Reads as size-ok-reads
-use Rattle.sane.proofs.inside.Reads as inside-reads
 use Rattle.driver.proofs.room.queue_in.Goals as goal
 
 -- src/room.rt:19:36

@@ -1,12 +1,4 @@
-use Rattle.model.proofs.Tests.{tests, told}
-use Rattle.driver.specs.Lay.{header, descriptor, flags_of, next_of, link, links, free, noted, marked, ready, queue_in}
-use mathlib.Core.Path.{◌≡◌, refl, sym, ◌∙◌, ap}
-use borrow.Author.Tests.{eq-eqb, ne_eqb, lt-ltb, le-ltb}
-use borrow.Author.Rules.{rules}
-use Rattle.driver.proofs.room.ready.Reads as reads
-use Rattle.driver.proofs.room.ready.Lts as lts
-use Rattle.driver.proofs.room.queue_in.Reads as queue-in-reads
-use Rattle.regions.proofs.all_sound.Reads as all-sound-reads
+use Rattle.driver.specs.Lay.{ready}
 use Rattle.driver.proofs.room.ready.Goals as goal
 
 -- src/room.rt:36:13

@@ -1,10 +1,5 @@
-use Rattle.model.proofs.Tests.{tests, told}
-use Rattle.driver.specs.Lay.{span, queue_in, counts_ok, spot_of, spot_at, is_at, place_of, in_memory, settled, area_words, formed, measured, form_ok, clear_of, separate}
-use mathlib.Core.Path.{◌≡◌, refl, sym, ◌∙◌, ap}
-use borrow.Author.Rules.{rules}
-use Rattle.driver.proofs.room.spot_of.Reads as reads
-use Rattle.driver.proofs.room.spot_of.Lts as lts
-use Rattle.regions.proofs.locate.Reads as locate-reads
+use Rattle.model.proofs.Tests.{tests}
+use Rattle.driver.specs.Lay.{spot_of}
 use Rattle.driver.proofs.room.spot_of.Goals as goal
 
 -- src/room.rt:56:9

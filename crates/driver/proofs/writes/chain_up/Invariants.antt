@@ -1,17 +1,8 @@
-use mathlib.Core.Path.{◌≡◌, refl, sym, ◌∙◌, ap}
-use native.Mathlib.Omega.{arith}
-use borrow.Author.Rules.{rules}
-use Prim.Native.Nat.{◌≤◌, ◌+◌, ◌-◌, ◌*◌, ◌/◌, ◌<◌, min}
+use mathlib.Core.Path.{◌≡◌}
+use Prim.Native.Nat.{◌-◌}
 use lib.ListN.{length}
 use Rattle.model.specs.Step.{apply}
-use Rattle.driver.specs.Fit.{Numbers}
-use Rattle.driver.specs.Lay.{link, links, descriptor}
-use Rattle.driver.proofs.Laws.{links-turn, links_end}
-use Rattle.driver.proofs.writes.chain_up.Reads as reads
-use Rattle.driver.proofs.writes.chain_up.Lts as lts
-use Rattle.driver.proofs.writes.flags_of.Reads as flags-of-reads
-use Rattle.driver.proofs.writes.next_of.Reads as next-of-reads
-use Rattle.driver.proofs.writes.put_descriptor.Reads as put-descriptor-reads
+use Rattle.driver.specs.Lay.{links}
 use Rattle.driver.proofs.writes.chain_up.Given as goal
 
 abbrev pub invariant-loop-i : goal.invariant-loop-i

@@ -1,9 +1,5 @@
-use Rattle.model.proofs.Tests.{tests, told}
-use Rattle.driver.specs.Lay.{header, descriptor, flags_of, next_of, link, links, free, noted, marked, ready, queue_in}
-use mathlib.Core.Path.{◌≡◌, refl, sym, ◌∙◌, ap}
-use borrow.Author.Rules.{rules}
-use Rattle.driver.proofs.writes.next_of.Reads as reads
-use Rattle.driver.proofs.writes.next_of.Lts as lts
+use Rattle.model.proofs.Tests.{tests}
+use Rattle.driver.specs.Lay.{next_of}
 use Rattle.driver.proofs.writes.next_of.Goals as goal
 
 -- src/writes.rt:55:9

@@ -1,11 +1,5 @@
-use mathlib.Core.Path.{◌≡◌, refl, sym, ◌∙◌, ap}
 use native.Mathlib.Omega.{arith}
 use Rattle.driver.specs.Fit.{Numbers}
-use borrow.Author.Rules.{rules}
-use Rattle.driver.proofs.writes.note.Reads as reads
-use Rattle.driver.proofs.writes.note.Lts as lts
-use Rattle.driver.proofs.writes.mark.Reads as mark-reads
-use Rattle.driver.proofs.writes.put_header.Reads as put-header-reads
 use Rattle.driver.proofs.writes.note.Goals as goal
 
 -- src/writes.rt:127:24

@@ -1,15 +1,8 @@
-use mathlib.Core.Path.{◌≡◌, refl, sym, ◌∙◌, ap}
+use mathlib.Core.Path.{◌≡◌}
 use native.Mathlib.Omega.{arith}
-use Prim.Native.Nat.{◌≤◌, ◌+◌, ◌-◌, ◌*◌, ◌/◌, ◌<◌, min}
+use Prim.Native.Nat.{◌-◌}
 use native.Mathlib.Nat.{mod-lt}
 use Rattle.driver.proofs.Laws.{write-stores}
-use Rattle.driver.specs.Fit.{WriteFit}
-use borrow.Author.Rules.{rules}
-use Rattle.driver.proofs.writes.write.Reads as reads
-use Rattle.driver.proofs.writes.write.Lts as lts
-use Rattle.answer.proofs.spread.Reads as spread-reads
-use Rattle.driver.proofs.writes.chain_up.Reads as chain-up-reads
-use Rattle.wire.proofs.put16.Reads as put16-reads
 use Rattle.driver.proofs.writes.write.Goals as goal
 
 -- src/writes.rt:113:5

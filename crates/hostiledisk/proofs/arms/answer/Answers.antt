@@ -1,11 +1,10 @@
 use native.Mathlib.Omega.{arith}
-use mathlib.Core.Path.{◌≡◌, refl, sym, ◌∙◌}
+use mathlib.Core.Path.{refl, sym, ◌∙◌}
 use Rattle.words.proofs.Laws.{framed-queue}
 use Rattle.model.proofs.Sane.{answer_ok}
 use Rattle.words.specs.Layout.{config_at}
 use Rattle.device.proofs.Laws.{met-answer, answer-fit}
 use Rattle.hostiledisk.proofs.Phases.{held-answer, ready-answer, chain-long, fit-held, wild-job, insane, unready, acted}
-use borrow.Author.Rules.{rules}
 use Rattle.hostiledisk.proofs.arms.answer.Goals as goal
 
 pub returns-then-state-gt5 : goal.returns-then-state-gt5

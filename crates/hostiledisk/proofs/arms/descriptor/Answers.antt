@@ -1,10 +1,9 @@
 use native.Mathlib.Omega.{arith}
-use mathlib.Core.Path.{◌≡◌, refl, sym, ◌∙◌}
+use mathlib.Core.Path.{refl, sym, ◌∙◌}
 use Rattle.words.proofs.Laws.{map-long}
 use Rattle.words.proofs.Laws.{framed-queue}
 use Rattle.words.proofs.Saved.{kept-descs}
 use lib.ListN.{get_or, length-set}
-use Prim.Native.Nat.{◌+◌, ◌-◌, ◌*◌}
 use Rattle.model.specs.Bytes.{part}
 use Rattle.model.specs.Sane.{ready}
 use Rattle.model.specs.Step.{code_after}
@@ -13,7 +12,6 @@ use Rattle.model.proofs.Chain.{chain-on}
 use Rattle.words.specs.Layout.{config_at, regions_word}
 use Rattle.device.proofs.Laws.{met-chain}
 use Rattle.hostiledisk.proofs.Phases.{held-chain, sane-chain, framed-few, fit-held, insane, acted}
-use borrow.Author.Rules.{rules}
 use Rattle.hostiledisk.proofs.arms.descriptor.Goals as goal
 
 pub chain_sane-requires : goal.chain_sane-requires

@@ -4,7 +4,6 @@ use Rattle.model.specs.Sane.{sane, ready}
 use Rattle.model.specs.Step.{code_after}
 use Rattle.device.proofs.Laws.{met-entry}
 use Rattle.hostiledisk.proofs.Phases.{held-entry, fit-held, acted}
-use borrow.Author.Rules.{rules}
 use Rattle.hostiledisk.proofs.arms.entry.Goals as goal
 
 pub entry-p-requires : goal.entry-p-requires

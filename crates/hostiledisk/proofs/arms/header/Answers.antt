@@ -1,10 +1,9 @@
 use native.Mathlib.Omega.{arith}
-use mathlib.Core.Path.{◌≡◌, refl, sym, ◌∙◌}
+use mathlib.Core.Path.{sym, ◌∙◌}
 use Rattle.words.proofs.Laws.{framed-queue}
 use Rattle.model.proofs.Sane.{header_ok}
 use Rattle.device.proofs.Laws.{met-header, header-fit}
 use Rattle.hostiledisk.proofs.Phases.{held-header, sane-header, ready-header, chain-long, fit-held, insane, unready, acted}
-use borrow.Author.Rules.{rules}
 use Rattle.hostiledisk.proofs.arms.header.Goals as goal
 
 pub header_sane-requires : goal.header_sane-requires

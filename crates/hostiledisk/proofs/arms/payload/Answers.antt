@@ -1,11 +1,10 @@
 use native.Mathlib.Omega.{arith}
-use mathlib.Core.Path.{◌≡◌, refl, sym, ◌∙◌}
+use mathlib.Core.Path.{sym, ◌∙◌}
 use Rattle.words.proofs.Laws.{framed-queue}
 use Rattle.model.specs.Step.{code_after}
 use Rattle.model.proofs.Sane.{payload-ok}
 use Rattle.device.proofs.Laws.{met-paid, payload-fit}
 use Rattle.hostiledisk.proofs.Phases.{held-payload, ready-payload, chain-long, fit-held, insane, unready, acted}
-use borrow.Author.Rules.{rules}
 use Rattle.hostiledisk.proofs.arms.payload.Goals as goal
 
 pub payload_sane-requires : goal.payload_sane-requires

@@ -3,7 +3,6 @@ use mathlib.Core.Path.{refl}
 use Rattle.model.specs.Sane.{sane, ready}
 use Rattle.device.proofs.Laws.{met-poll}
 use Rattle.hostiledisk.proofs.Phases.{held-poll, fit-held, acted}
-use borrow.Author.Rules.{rules}
 use Rattle.hostiledisk.proofs.arms.poll.Goals as goal
 
 pub poll-p-requires : goal.poll-p-requires

@@ -1,10 +1,9 @@
 use native.Mathlib.Omega.{arith}
-use mathlib.Core.Path.{◌≡◌, refl, sym, ◌∙◌}
+use mathlib.Core.Path.{refl, sym, ◌∙◌}
 use Rattle.words.proofs.Laws.{framed-queue}
 use Rattle.model.specs.Sane.{ready}
 use Rattle.device.proofs.Laws.{met-publish}
 use Rattle.hostiledisk.proofs.Phases.{held-publish, sane-publish, fit-held, insane, acted}
-use borrow.Author.Rules.{rules}
 use Rattle.hostiledisk.proofs.arms.publish.Goals as goal
 
 pub publish_sane-requires : goal.publish_sane-requires

@@ -1,12 +1,9 @@
 use native.Mathlib.Omega.{arith}
-use mathlib.Core.Path.{◌≡◌, refl, sym, ◌∙◌, ap}
-use lib.ListN.{get_or, length-set}
-use Prim.Native.Nat.{◌+◌, ◌-◌, ◌*◌, ◌^◌}
+use lib.ListN.{get_or}
 use Rattle.words.specs.Layout.{regions_word}
 use Rattle.words.proofs.Laws.{map-long}
 use Rattle.hostiledisk.proofs.Laws.{memory-ok}
 use Rattle.model.specs.Bytes.{part}
-use borrow.Author.Rules.{rules}
 use Rattle.hostiledisk.proofs.set_up.areas.Goals as goal
 
 pub overflow_mul-end : goal.overflow_mul-end

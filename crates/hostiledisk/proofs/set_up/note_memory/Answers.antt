@@ -1,9 +1,8 @@
-use lib.ListN.{get_or, length-set}
-use mathlib.Core.Path.{◌≡◌, refl, sym, ◌∙◌, ap}
+use lib.ListN.{length-set}
+use mathlib.Core.Path.{◌∙◌}
 use Rattle.model.proofs.Lists.{put-cons, put-nil}
 use native.Mathlib.Omega.{arith}
 use lib.ListN.{length-set}
-use borrow.Author.Rules.{rules}
 use Rattle.hostiledisk.specs.Calls.{memory_set}
 use Rattle.hostiledisk.proofs.set_up.note_memory.Goals as goal
 

@@ -1,11 +1,10 @@
-use lib.ListN.{get_or, length-set}
-use mathlib.Core.Path.{◌≡◌, refl, sym, ◌∙◌, ap}
-use Rattle.model.proofs.Lists.{put-cons, put-nil}
-use Rattle.hostiledisk.specs.Calls.{chain_words, hd_memory, flag, disk_set, hd_disk, queue_set, enabled_with, hd_enable_at, hd_reset, seen, seen_of, shown, status_words, hd_status, is_broken, long_enough, stepped, stepped_on, Going, hd_step, StepIs}
+use lib.ListN.{length-set}
+use mathlib.Core.Path.{◌∙◌}
+use Rattle.model.proofs.Lists.{put-cons}
+use Rattle.hostiledisk.specs.Calls.{queue_set}
 use Rattle.words.specs.Layout.{saved}
 use native.Mathlib.Omega.{arith}
 use lib.ListN.{length-set}
-use borrow.Author.Rules.{rules}
 use Rattle.hostiledisk.proofs.set_up.note_queue.Goals as goal
 
 pub bounds-state-10 : goal.bounds-state-10

@@ -1,7 +1,6 @@
 use native.Mathlib.Omega.{arith}
-use Rattle.hostiledisk.specs.Calls.{chain_words, hd_memory, flag, disk_set, hd_disk, queue_set, enabled_with, hd_enable_at, hd_reset, seen, seen_of, shown, status_words, hd_status, is_broken, long_enough, stepped, stepped_on, Going, hd_step, StepIs}
+use Rattle.hostiledisk.specs.Calls.{seen_of}
 use Rattle.model.proofs.Sane.{payload-ok}
-use borrow.Author.Rules.{rules}
 use Rattle.hostiledisk.proofs.status.seen_of.Goals as goal
 
 pub overflow_add-got : goal.overflow_add-got

@@ -1,8 +1,7 @@
-use Rattle.hostiledisk.specs.Calls.{chain_words, hd_memory, flag, disk_set, hd_disk, queue_set, enabled_with, hd_enable_at, hd_reset, seen, seen_of, shown, status_words, hd_status, is_broken, long_enough, stepped, stepped_on, Going, hd_step, StepIs}
+use Rattle.hostiledisk.specs.Calls.{shown}
 use Rattle.model.proofs.Lists.{put-cons, put-nil}
 use native.Mathlib.Omega.{arith}
 use lib.ListN.{length-set}
-use borrow.Author.Rules.{rules}
 use Rattle.hostiledisk.proofs.status.show.Goals as goal
 
 pub bounds-out-1 : goal.bounds-out-1

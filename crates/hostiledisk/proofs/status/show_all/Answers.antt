@@ -4,7 +4,6 @@ use native.Mathlib.Omega.{arith}
 use borrow.Author.Tests.{le-leb, lt-leb}
 use Rattle.model.proofs.Lists.{put-cons, put-nil}
 use Rattle.hostiledisk.specs.Calls.{shown}
-use borrow.Author.Rules.{rules}
 use Rattle.hostiledisk.proofs.status.show_all.Goals as goal
 
 pub returns-then-out-ge10 : goal.returns-then-out-ge10

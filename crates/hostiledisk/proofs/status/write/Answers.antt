@@ -1,8 +1,7 @@
-use borrow.Author.Tests.{ne_eqb, eq-eqb, lt-ltb, le-ltb, le-leb, lt-leb}
-use Rattle.hostiledisk.specs.Calls.{chain_words, hd_memory, flag, disk_set, hd_disk, queue_set, enabled_with, hd_enable_at, hd_reset, seen, seen_of, shown, status_words, hd_status, is_broken, long_enough, stepped, stepped_on, Going, hd_step, StepIs}
-use mathlib.Core.Path.{◌≡◌, refl, sym, ◌∙◌, ap}
-use Rattle.hostiledisk.proofs.Laws.{level-two, level-three, fit_of, untouched-is}
-use borrow.Author.Rules.{rules}
+use borrow.Author.Tests.{ne_eqb, eq-eqb}
+use Rattle.hostiledisk.specs.Calls.{status_words}
+use mathlib.Core.Path.{sym, ◌∙◌}
+use Rattle.hostiledisk.proofs.Laws.{level-three}
 use Rattle.hostiledisk.proofs.status.write.Goals as goal
 
 pub seen_of-x-requires : goal.seen_of-x-requires

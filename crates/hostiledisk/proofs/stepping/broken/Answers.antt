@@ -1,7 +1,6 @@
 use borrow.Author.Tests.{eq-eqb, ne_eqb}
 use Rattle.words.proofs.Laws.{framed-queue}
 use Rattle.hostiledisk.specs.Calls.{broken_code}
-use borrow.Author.Rules.{rules}
 use Rattle.hostiledisk.proofs.stepping.broken.Goals as goal
 
 pub broken_sane-requires : goal.broken_sane-requires

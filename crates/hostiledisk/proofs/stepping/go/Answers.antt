@@ -1,5 +1,4 @@
 use Rattle.hostiledisk.proofs.Phases.{wild, tag-low}
-use borrow.Author.Rules.{rules}
 use Rattle.hostiledisk.proofs.stepping.go.Goals as goal
 
 pub returns : goal.returns

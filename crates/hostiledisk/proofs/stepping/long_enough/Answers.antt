@@ -1,6 +1,5 @@
 use Rattle.model.proofs.Tests.{tests}
-use Rattle.hostiledisk.specs.Calls.{chain_words, hd_memory, flag, disk_set, hd_disk, queue_set, enabled_with, hd_enable_at, hd_reset, seen, seen_of, shown, status_words, hd_status, is_broken, long_enough, stepped, stepped_on, Going, hd_step, StepIs}
-use borrow.Author.Rules.{rules}
+use Rattle.hostiledisk.specs.Calls.{long_enough}
 use Rattle.hostiledisk.proofs.stepping.long_enough.Goals as goal
 
 pub returns-then-mem-state : goal.returns-then-mem-state

@@ -1,12 +1,5 @@
 use mathlib.Core.Path.{refl}
-use native.Mathlib.Omega.{arith}
 use Rattle.trip.specs.Exchange.{exchange, after, reading}
-use borrow.Author.Rules.{rules}
-use Rattle.trip.proofs.exchange.exchange.Reads as reads
-use Rattle.trip.proofs.exchange.exchange.Lts as lts
-use Rattle.trip.proofs.exchange.receive.Reads as receive-reads
-use Rattle.trip.proofs.exchange.send.Reads as send-reads
-use Rattle.trip.proofs.serve.serve.Reads as serve-reads
 use Rattle.trip.proofs.exchange.exchange.Goals as goal
 
 -- src/exchange.rt:86:1

@@ -1,10 +1,3 @@
-use borrow.Author.Rules.{rules}
-use Rattle.trip.proofs.exchange.receive.Reads as reads
-use Rattle.trip.proofs.exchange.receive.Lts as lts
-use Rattle.driver.proofs.reading.status.Reads as status-reads
-use Rattle.driver.proofs.reading.take.Reads as take-reads
-use Rattle.driver.proofs.reading.used_idx.Reads as used-idx-reads
-use Rattle.trip.proofs.exchange.received.Reads as received-reads
 use Rattle.trip.proofs.exchange.receive.Goals as goal
 
 -- src/exchange.rt:65:1

@@ -1,9 +1,5 @@
 use Rattle.trip.specs.Exchange.{received}
 use borrow.Author.Tests.{eq-eqb, ne_eqb}
-use borrow.Author.Rules.{rules}
-use Rattle.trip.proofs.exchange.received.Reads as reads
-use Rattle.trip.proofs.exchange.received.Lts as lts
-use Rattle.trip.proofs.exchange.with_status.Reads as with-status-reads
 use Rattle.trip.proofs.exchange.received.Goals as goal
 
 -- src/exchange.rt:57:17

@@ -1,10 +1,5 @@
 use mathlib.Core.Path.{sym, ◌∙◌}
 use Rattle.trip.specs.Exchange.{sent, shown_in}
-use borrow.Author.Rules.{rules}
-use Rattle.trip.proofs.exchange.send.Reads as reads
-use Rattle.trip.proofs.exchange.send.Lts as lts
-use Rattle.driver.proofs.laying.lay.Reads as lay-reads
-use Rattle.driver.proofs.laying.publish.Reads as publish-reads
 use Rattle.trip.proofs.exchange.send.Goals as goal
 
 -- src/exchange.rt:17:1

@@ -1,7 +1,4 @@
 use Rattle.trip.specs.Exchange.{with_status}
-use borrow.Author.Rules.{rules}
-use Rattle.trip.proofs.exchange.with_status.Reads as reads
-use Rattle.trip.proofs.exchange.with_status.Lts as lts
 use Rattle.trip.proofs.exchange.with_status.Goals as goal
 
 -- src/exchange.rt:40:1

@@ -1,11 +1,5 @@
 use Rattle.trip.proofs.Whole.{and-honest}
 use Rattle.trip.proofs.Round.{write-refused, write-stuck, read-refused, read-stuck, read_done}
-use native.Mathlib.Omega.{arith}
-use borrow.Author.Rules.{rules}
-use Rattle.trip.proofs.round_trip.round_trip.Reads as reads
-use Rattle.trip.proofs.round_trip.round_trip.Lts as lts
-use Rattle.driver.proofs.reading.read.Reads as read-reads
-use Rattle.trip.proofs.exchange.exchange.Reads as exchange-reads
 use Rattle.trip.proofs.round_trip.round_trip.Goals as goal
 
 -- src/round_trip.rt:16:1

@@ -1,14 +1,8 @@
 use borrow.Author.Rules.{rules}
 use native.Mathlib.Omega.{arith}
-use Prim.Native.Nat.{◌≤◌, ◌-◌}
+use Prim.Native.Nat.{◌-◌}
 use mathlib.Core.Path.{◌≡◌, refl, ◌∙◌}
-use lib.ListN.{length}
-use Rattle.hostiledisk.specs.Calls.{untouched}
-use Rattle.trip.specs.Until.{until}
 use Rattle.trip.proofs.Turns.{goes_on, stops, all_made}
-use Rattle.trip.proofs.serve.serve.Reads as reads
-use Rattle.trip.proofs.serve.serve.Lts as lts
-use Rattle.hostiledisk.proofs.hd_step.Reads as hd-step-reads
 use Rattle.trip.proofs.serve.serve.Goals as goal
 
 -- src/serve.rt:17:5
