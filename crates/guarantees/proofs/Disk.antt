@@ -95,7 +95,7 @@ read_back at a k bs xs m h l s =
     spared (at + a) k xs (put m at bs) s
     ∙ (sym (part-part at a (length bs) k (put m at bs) l) ∙ ap (part a k) (part-put m at (length bs) bs refl h))
 
--- on a read_only disk that set-up and steps made, no call writes to the disk
+-- on a read-only disk that set-up and steps made, no call writes to the disk
 pub read_only : (w : World) (c : Call) → Kept w → (get_or w.state ro_word 0 ≡ 0 → ⊥) → written w c ≡ []
 unfolding written
 read_only w (memory words m) k n = refl
