@@ -12,12 +12,12 @@ mod areas;
 mod bytes;
 mod driven;
 mod guest;
+mod honest;
 mod host;
 mod longest;
 mod many;
 mod ranges;
 mod refusals;
-mod requests;
 mod say;
 mod setup;
 mod split;
@@ -63,9 +63,9 @@ fn rows_03(
     stage: &mut Stage,
     disk: &Bytes,
 ) -> io::Result<()> {
-    requests::three(rt, mem, backing, stage)?;
-    requests::rows(rt, mem, backing, stage)?;
-    requests::seven(rt, mem, backing, stage)?;
+    honest::three(rt, mem, backing, stage)?;
+    honest::rows(rt, mem, backing, stage)?;
+    honest::seven(rt, mem, backing, stage)?;
     split::refused(rt, mem, backing, stage)?;
     split::out(rt, mem, backing, stage, disk)
 }

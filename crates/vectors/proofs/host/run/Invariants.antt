@@ -1,4 +1,4 @@
-use Rattle.std.proofs.Common.{◌≡◌, ◌-◌, ◌≤◌, length, refl, rules}
+use Rattle.std.proofs.Common.{◌≡◌, ◌-◌, length}
 use Rattle.vectors.proofs.host.run.Given as goal
 
 -- At most 64 turns; a step keeps the lengths of state and chain memory.

@@ -1,4 +1,4 @@
-use Rattle.std.proofs.Common.{◌-◌, ◌≤◌, rules}
+use Rattle.std.proofs.Common.{◌-◌, ◌≤◌}
 use Rattle.vectors.proofs.longest.lay.Given as goal
 
 -- The loop's bound keeps each descriptor's numbers in range.

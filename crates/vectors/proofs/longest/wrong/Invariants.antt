@@ -1,4 +1,4 @@
-use Rattle.std.proofs.Common.{◌-◌, ◌≤◌, rules}
+use Rattle.std.proofs.Common.{◌-◌, ◌≤◌}
 use Rattle.vectors.proofs.longest.wrong.Given as goal
 
 -- The loop's bound keeps both places in range.

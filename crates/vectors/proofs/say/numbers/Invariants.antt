@@ -1,4 +1,4 @@
-use Rattle.std.proofs.Common.{◌-◌, ◌≤◌, length, rules}
+use Rattle.std.proofs.Common.{◌-◌, ◌≤◌, length}
 use Rattle.vectors.proofs.say.numbers.Given as goal
 
 -- The loop prints a number a turn; the invariant keeps the index within the numbers.

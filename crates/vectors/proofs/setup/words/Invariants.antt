@@ -1,4 +1,4 @@
-use Rattle.std.proofs.Common.{◌-◌, ◌≤◌, length, arith, rules}
+use Rattle.std.proofs.Common.{◌-◌, ◌≤◌, length}
 use Rattle.vectors.proofs.setup.words.Given as goal
 
 -- The loop prints a word a turn; the invariant keeps the index within the words.

@@ -1,5 +1,5 @@
-use Rattle.std.proofs.Common.{◌-◌, ◌≤◌, rules}
-use Rattle.vectors.proofs.requests.rows.Given as goal
+use Rattle.std.proofs.Common.{◌-◌, ◌≤◌}
+use Rattle.vectors.proofs.honest.rows.Given as goal
 
 -- Sixteen turns; nothing is to be kept but the bound.
 abbrev pub invariant-loop-i : goal.invariant-loop-i

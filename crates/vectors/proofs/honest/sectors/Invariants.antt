@@ -1,5 +1,5 @@
-use Rattle.std.proofs.Common.{◌-◌, ◌≤◌, rules}
-use Rattle.vectors.proofs.requests.sectors.Given as goal
+use Rattle.std.proofs.Common.{◌-◌, ◌≤◌}
+use Rattle.vectors.proofs.honest.sectors.Given as goal
 
 -- Six turns; the bound keeps the places small.
 abbrev pub invariant-loop-i : goal.invariant-loop-i
