@@ -12,14 +12,8 @@ overflow_mul-s c = let f = read_fits _ _ _ (rw c.in-Read.is at c.requires.job_va
 pub overflow_add-disk : goal.overflow_add-disk
 overflow_add-disk c = let f = read_fits _ _ _ (rw c.in-Read.is at c.requires.job_value) in omega (arith, f.to, c.requires.sectors_in_bounds)
 
-pub spread-requires-clause-n_in_bounds : goal.spread-requires-clause-n_in_bounds
-spread-requires-clause-n_in_bounds c = let f = read_fits _ _ _ (rw c.in-Read.is at c.requires.job_value) in omega (arith, f.to, c.requires.sectors_in_bounds)
-
-pub spread-requires-clause-end_in_bounds : goal.spread-requires-clause-end_in_bounds
-spread-requires-clause-end_in_bounds c = let f = read_fits _ _ _ (rw c.in-Read.is at c.requires.job_value) in c.requires.count_in_bounds
-
-pub spread-requires-clause-chain_value : goal.spread-requires-clause-chain_value
-spread-requires-clause-chain_value c = let f = read_fits _ _ _ (rw c.in-Read.is at c.requires.job_value) in c.requires.k_value
+pub spread-requires : goal.spread-requires
+spread-requires c = let f = read_fits _ _ _ (rw c.in-Read.is at c.requires.job_value) in record { n_in_bounds = omega (arith, f.to, c.requires.sectors_in_bounds); end_in_bounds = c.requires.count_in_bounds; chain_value = c.requires.k_value }
 
 pub returns-in-Failed : goal.returns-in-Failed
 unfolding handed

@@ -14,38 +14,14 @@ hold-requires-in-Last c = omega (arith, c.requires, leb-false c.args.q c.args.k.
 pub overflow_add-result-in-Last : goal.overflow_add-result-in-Last
 overflow_add-result-in-Last c = omega (arith, c.requires)
 
-pub returns-in-Bad-clause-phase_value : goal.returns-in-Bad-clause-phase_value
+pub returns-in-Bad : goal.returns-in-Bad
 unfolding tested described descs_after keeps
-returns-in-Bad-clause-phase_value c = let l = c.locate-found.ensures in let j = c.judge-t.ensures in let g = c.in-Bad.is in rw (← l, ← j, g)
+returns-in-Bad c = let l = c.locate-found.ensures in let j = c.judge-t.ensures in let g = c.in-Bad.is in record { phase_value = rw (← l, ← j, g); descs_value = rw (← l, ← j, g); chain_after = rw (← l, ← j, g) }
 
-pub returns-in-Bad-clause-descs_value : goal.returns-in-Bad-clause-descs_value
+pub returns-in-Next : goal.returns-in-Next
 unfolding tested described descs_after keeps
-returns-in-Bad-clause-descs_value c = let l = c.locate-found.ensures in let j = c.judge-t.ensures in let g = c.in-Bad.is in rw (← l, ← j, g)
+returns-in-Next c = let l = c.locate-found.ensures in let j = c.judge-t.ensures in let g = c.in-Next.is in record { phase_value = rw (← l, ← j, g, c.tally.ensures); descs_value = rw (← l, ← j, g); chain_after = rw (← l, ← j, g) c.hold.ensures }
 
-pub returns-in-Bad-clause-chain_after : goal.returns-in-Bad-clause-chain_after
+pub returns-in-Last : goal.returns-in-Last
 unfolding tested described descs_after keeps
-returns-in-Bad-clause-chain_after c = let l = c.locate-found.ensures in let j = c.judge-t.ensures in let g = c.in-Bad.is in rw (← l, ← j, g)
-
-pub returns-in-Next-clause-phase_value : goal.returns-in-Next-clause-phase_value
-unfolding tested described descs_after keeps
-returns-in-Next-clause-phase_value c = let l = c.locate-found.ensures in let j = c.judge-t.ensures in let g = c.in-Next.is in rw (← l, ← j, g, c.tally.ensures)
-
-pub returns-in-Next-clause-descs_value : goal.returns-in-Next-clause-descs_value
-unfolding tested described descs_after keeps
-returns-in-Next-clause-descs_value c = let l = c.locate-found.ensures in let j = c.judge-t.ensures in let g = c.in-Next.is in rw (← l, ← j, g)
-
-pub returns-in-Next-clause-chain_after : goal.returns-in-Next-clause-chain_after
-unfolding tested described descs_after keeps
-returns-in-Next-clause-chain_after c = let l = c.locate-found.ensures in let j = c.judge-t.ensures in let g = c.in-Next.is in rw (← l, ← j, g) c.hold.ensures
-
-pub returns-in-Last-clause-phase_value : goal.returns-in-Last-clause-phase_value
-unfolding tested described descs_after keeps
-returns-in-Last-clause-phase_value c = let l = c.locate-found.ensures in let j = c.judge-t.ensures in let g = c.in-Last.is in rw (← l, ← j, g, c.complete.ensures, c.tally-in-Last.ensures)
-
-pub returns-in-Last-clause-descs_value : goal.returns-in-Last-clause-descs_value
-unfolding tested described descs_after keeps
-returns-in-Last-clause-descs_value c = let l = c.locate-found.ensures in let j = c.judge-t.ensures in let g = c.in-Last.is in rw (← l, ← j, g)
-
-pub returns-in-Last-clause-chain_after : goal.returns-in-Last-clause-chain_after
-unfolding tested described descs_after keeps
-returns-in-Last-clause-chain_after c = let l = c.locate-found.ensures in let j = c.judge-t.ensures in let g = c.in-Last.is in rw (← l, ← j, g) c.hold-in-Last.ensures
+returns-in-Last c = let l = c.locate-found.ensures in let j = c.judge-t.ensures in let g = c.in-Last.is in record { phase_value = rw (← l, ← j, g, c.complete.ensures, c.tally-in-Last.ensures); descs_value = rw (← l, ← j, g); chain_after = rw (← l, ← j, g) c.hold-in-Last.ensures }

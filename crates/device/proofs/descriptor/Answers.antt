@@ -25,11 +25,5 @@ described-requires-clause-w_bound c = omega (arith, c.requires, c.fetch-d.ensure
 pub described-requires-clause-len_bound : goal.described-requires-clause-len_bound
 described-requires-clause-len_bound c = omega (arith, c.requires, c.fetch-d.ensures.len-fits)
 
-pub returns-clause-phase_value : goal.returns-clause-phase_value
-returns-clause-phase_value c = let is = c.fetch-d.ensures.is in rw (← is) c.described.ensures.phase_value
-
-pub returns-clause-descs_value : goal.returns-clause-descs_value
-returns-clause-descs_value c = let is = c.fetch-d.ensures.is in rw (← is) c.described.ensures.descs_value
-
-pub returns-clause-chain_after : goal.returns-clause-chain_after
-returns-clause-chain_after c = let is = c.fetch-d.ensures.is in rw (← is) c.described.ensures.chain_after
+pub returns : goal.returns
+returns c = let is = c.fetch-d.ensures.is in record { phase_value = rw (← is) c.described.ensures.phase_value; descs_value = rw (← is) c.described.ensures.descs_value; chain_after = rw (← is) c.described.ensures.chain_after }

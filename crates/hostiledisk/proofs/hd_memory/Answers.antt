@@ -6,21 +6,13 @@ use mathlib.Core.Path.{sym, ◌∙◌}
 use Rattle.words.specs.Layout.{state_words}
 use Rattle.hostiledisk.proofs.hd_memory.Goals as goal
 
-pub returns-then-state-lt-STATE_WORDS-clause-value : goal.returns-then-state-lt-STATE_WORDS-clause-value
+pub returns-then-state-lt-STATE_WORDS : goal.returns-then-state-lt-STATE_WORDS
 unfolding hd_memory
-returns-then-state-lt-STATE_WORDS-clause-value c = let t = lt-ltb _ state_words c.if-state-lt-STATE_WORDS.true in rw t
+returns-then-state-lt-STATE_WORDS c = let t = lt-ltb _ state_words c.if-state-lt-STATE_WORDS.true in record { value = rw t; state_after = rw t }
 
-pub returns-then-state-lt-STATE_WORDS-clause-state_after : goal.returns-then-state-lt-STATE_WORDS-clause-state_after
+pub returns-then-code-ne0 : goal.returns-then-code-ne0
 unfolding hd_memory
-returns-then-state-lt-STATE_WORDS-clause-state_after c = let t = lt-ltb _ state_words c.if-state-lt-STATE_WORDS.true in rw t
-
-pub returns-then-code-ne0-clause-value : goal.returns-then-code-ne0-clause-value
-unfolding hd_memory
-returns-then-code-ne0-clause-value c = let t = le-ltb _ state_words c.if-state-lt-STATE_WORDS.false in let e = c.memory_code-code.ensures in let u = ne_eqb _ 0 c.if-code-ne0.true in rw (t, ← e, u)
-
-pub returns-then-code-ne0-clause-state_after : goal.returns-then-code-ne0-clause-state_after
-unfolding hd_memory
-returns-then-code-ne0-clause-state_after c = let t = le-ltb _ state_words c.if-state-lt-STATE_WORDS.false in let e = c.memory_code-code.ensures in let u = ne_eqb _ 0 c.if-code-ne0.true in rw (t, ← e, u)
+returns-then-code-ne0 c = let t = le-ltb _ state_words c.if-state-lt-STATE_WORDS.false in let e = c.memory_code-code.ensures in let u = ne_eqb _ 0 c.if-code-ne0.true in record { value = rw (t, ← e, u); state_after = rw (t, ← e, u) }
 
 pub note_memory-requires-clause-state_words_in_bounds : goal.note_memory-requires-clause-state_words_in_bounds
 note_memory-requires-clause-state_words_in_bounds c = c.if-state-lt-STATE_WORDS.false
@@ -28,10 +20,6 @@ note_memory-requires-clause-state_words_in_bounds c = c.if-state-lt-STATE_WORDS.
 pub note_memory-requires-clause-map_len_bound : goal.note_memory-requires-clause-map_len_bound
 note_memory-requires-clause-map_len_bound c = let few = mapped _ _ (sym c.memory_code-code.ensures ∙ c.if-code-ne0.false) in omega (arith, few.threes, few.few)
 
-pub returns-clause-value : goal.returns-clause-value
+pub returns : goal.returns
 unfolding hd_memory
-returns-clause-value c = let t = le-ltb _ state_words c.if-state-lt-STATE_WORDS.false in let e = c.memory_code-code.ensures in let u = eq-eqb _ 0 c.if-code-ne0.false in rw (t, ← e, u)
-
-pub returns-clause-state_after : goal.returns-clause-state_after
-unfolding hd_memory
-returns-clause-state_after c = let t = le-ltb _ state_words c.if-state-lt-STATE_WORDS.false in let e = c.memory_code-code.ensures in let u = eq-eqb _ 0 c.if-code-ne0.false in rw (t, ← e, u) c.note_memory.ensures
+returns c = let t = le-ltb _ state_words c.if-state-lt-STATE_WORDS.false in let e = c.memory_code-code.ensures in let u = eq-eqb _ 0 c.if-code-ne0.false in record { value = rw (t, ← e, u); state_after = rw (t, ← e, u) c.note_memory.ensures }

@@ -3,13 +3,9 @@ use Rattle.hostiledisk.specs.Calls.{hd_reset}
 use Rattle.words.specs.Layout.{state_words}
 use Rattle.hostiledisk.proofs.hd_reset.Goals as goal
 
-pub returns-then-state-lt-STATE_WORDS-clause-value : goal.returns-then-state-lt-STATE_WORDS-clause-value
+pub returns-then-state-lt-STATE_WORDS : goal.returns-then-state-lt-STATE_WORDS
 unfolding hd_reset
-returns-then-state-lt-STATE_WORDS-clause-value c = rw (lt-ltb _ state_words c.if-state-lt-STATE_WORDS.true)
-
-pub returns-then-state-lt-STATE_WORDS-clause-state_after : goal.returns-then-state-lt-STATE_WORDS-clause-state_after
-unfolding hd_reset
-returns-then-state-lt-STATE_WORDS-clause-state_after c = rw (lt-ltb _ state_words c.if-state-lt-STATE_WORDS.true)
+returns-then-state-lt-STATE_WORDS c = record { value = rw (lt-ltb _ state_words c.if-state-lt-STATE_WORDS.true); state_after = rw (lt-ltb _ state_words c.if-state-lt-STATE_WORDS.true) }
 
 pub returns-then-level-eq3-clause-value : goal.returns-then-level-eq3-clause-value
 unfolding hd_reset

@@ -15,8 +15,5 @@ pub loop-i-preserved : goal.loop-i-preserved
 loop-i-preserved c = let t = choose-turn c.args.own.now c.args.nums.now c.loop-i.i c.args.n c.loop-i.k (omega arith) c.loop-i.invariant.1 in (omega arith, rw add-one (c.note-k.ensures.value ∙ sym t.0), omega (arith, c.note-k.auto.nums, c.loop-i.invariant.2), rw add-one (rw (c.note-k.ensures.nums_after, c.loop-i.invariant.3) (sym t.1)))
 
 -- src/plan.rt:32:1
-pub returns-clause-value : goal.returns-clause-value
-returns-clause-value c = let z : c.loop-i.i ≡ c.args.q = omega arith in let k = rw z at c.loop-i.invariant.1 in rw k (min-leb c.args.n (length (free c.args.q c.args.own.now)))
-
-pub returns-clause-nums_after : goal.returns-clause-nums_after
-returns-clause-nums_after c = let z : c.loop-i.i ≡ c.args.q = omega arith in let k = rw z at c.loop-i.invariant.1 in rw z at c.loop-i.invariant.3
+pub returns : goal.returns
+returns c = let z : c.loop-i.i ≡ c.args.q = omega arith in let k = rw z at c.loop-i.invariant.1 in record { value = rw k (min-leb c.args.n (length (free c.args.q c.args.own.now))); nums_after = rw z at c.loop-i.invariant.3 }

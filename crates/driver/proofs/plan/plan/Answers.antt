@@ -9,37 +9,16 @@ pub counts_ok-requires : goal.counts_ok-requires
 counts_ok-requires c = (ready-ok _ _ _ _ (sym c.ready.ensures ∙ c.if-ready.true)).small
 
 -- src/plan.rt:94:16
-pub settle-requires-clause-map_value : goal.settle-requires-clause-map_value
-settle-requires-clause-map_value c = let r = ready-ok _ _ _ _ (sym c.ready.ensures ∙ c.if-ready.true) in let k = counts-ok _ _ _ _ _ (sym c.counts_ok.ensures ∙ c.if-counts_ok.true) in r.map-sound
-
-pub settle-requires-clause-e_in_bounds : goal.settle-requires-clause-e_in_bounds
-settle-requires-clause-e_in_bounds c = let r = ready-ok _ _ _ _ (sym c.ready.ensures ∙ c.if-ready.true) in let k = counts-ok _ _ _ _ _ (sym c.counts_ok.ensures ∙ c.if-counts_ok.true) in omega (arith, k.even)
-
-pub settle-requires-clause-e_in_bounds_2 : goal.settle-requires-clause-e_in_bounds_2
-settle-requires-clause-e_in_bounds_2 c = let r = ready-ok _ _ _ _ (sym c.ready.ensures ∙ c.if-ready.true) in let k = counts-ok _ _ _ _ _ (sym c.counts_ok.ensures ∙ c.if-counts_ok.true) in omega (arith, k.spots-long)
+pub settle-requires : goal.settle-requires
+settle-requires c = let r = ready-ok _ _ _ _ (sym c.ready.ensures ∙ c.if-ready.true) in let k = counts-ok _ _ _ _ _ (sym c.counts_ok.ensures ∙ c.if-counts_ok.true) in record { map_value = r.map-sound; e_in_bounds = omega (arith, k.even); e_in_bounds_2 = omega (arith, k.spots-long) }
 
 -- src/plan.rt:95:17
-pub note_areas-requires-clause-size_le_size_max : goal.note_areas-requires-clause-size_le_size_max
-note_areas-requires-clause-size_le_size_max c = let r = ready-ok _ _ _ _ (sym c.ready.ensures ∙ c.if-ready.true) in let k = counts-ok _ _ _ _ _ (sym c.counts_ok.ensures ∙ c.if-counts_ok.true) in r.small
-
-pub note_areas-requires-clause-e_le_size_max : goal.note_areas-requires-clause-e_le_size_max
-note_areas-requires-clause-e_le_size_max c = let r = ready-ok _ _ _ _ (sym c.ready.ensures ∙ c.if-ready.true) in let k = counts-ok _ _ _ _ _ (sym c.counts_ok.ensures ∙ c.if-counts_ok.true) in omega (arith, r.small, k.few)
-
-pub note_areas-requires-clause-e_in_bounds : goal.note_areas-requires-clause-e_in_bounds
-note_areas-requires-clause-e_in_bounds c = let r = ready-ok _ _ _ _ (sym c.ready.ensures ∙ c.if-ready.true) in let k = counts-ok _ _ _ _ _ (sym c.counts_ok.ensures ∙ c.if-counts_ok.true) in omega (arith, k.spots-long, c.settle.auto.spots)
+pub note_areas-requires : goal.note_areas-requires
+note_areas-requires c = let r = ready-ok _ _ _ _ (sym c.ready.ensures ∙ c.if-ready.true) in let k = counts-ok _ _ _ _ _ (sym c.counts_ok.ensures ∙ c.if-counts_ok.true) in record { size_le_size_max = r.small; e_le_size_max = omega (arith, r.small, k.few); e_in_bounds = omega (arith, k.spots-long, c.settle.auto.spots) }
 
 -- src/plan.rt:96:17
-pub plan_on-requires-clause-q_in_bounds : goal.plan_on-requires-clause-q_in_bounds
-plan_on-requires-clause-q_in_bounds c = let r = ready-ok _ _ _ _ (sym c.ready.ensures ∙ c.if-ready.true) in let k = counts-ok _ _ _ _ _ (sym c.counts_ok.ensures ∙ c.if-counts_ok.true) in r.own-long
-
-pub plan_on-requires-clause-reads_le_e : goal.plan_on-requires-clause-reads_le_e
-plan_on-requires-clause-reads_le_e c = let r = ready-ok _ _ _ _ (sym c.ready.ensures ∙ c.if-ready.true) in let k = counts-ok _ _ _ _ _ (sym c.counts_ok.ensures ∙ c.if-counts_ok.true) in k.reads_in
-
-pub plan_on-requires-clause-e_in_bounds : goal.plan_on-requires-clause-e_in_bounds
-plan_on-requires-clause-e_in_bounds c = let r = ready-ok _ _ _ _ (sym c.ready.ensures ∙ c.if-ready.true) in let k = counts-ok _ _ _ _ _ (sym c.counts_ok.ensures ∙ c.if-counts_ok.true) in omega (arith, k.spots-long, c.settle.auto.spots, c.note_areas.auto.spots)
-
-pub plan_on-requires-clause-e_in_bounds_2 : goal.plan_on-requires-clause-e_in_bounds_2
-plan_on-requires-clause-e_in_bounds_2 c = let r = ready-ok _ _ _ _ (sym c.ready.ensures ∙ c.if-ready.true) in let k = counts-ok _ _ _ _ _ (sym c.counts_ok.ensures ∙ c.if-counts_ok.true) in k.nums-long
+pub plan_on-requires : goal.plan_on-requires
+plan_on-requires c = let r = ready-ok _ _ _ _ (sym c.ready.ensures ∙ c.if-ready.true) in let k = counts-ok _ _ _ _ _ (sym c.counts_ok.ensures ∙ c.if-counts_ok.true) in record { q_in_bounds = r.own-long; reads_le_e = k.reads_in; e_in_bounds = omega (arith, k.spots-long, c.settle.auto.spots, c.note_areas.auto.spots); e_in_bounds_2 = k.nums-long }
 
 -- src/plan.rt:96:17
 pub returns-then-settle : goal.returns-then-settle

@@ -11,11 +11,8 @@ pub loop-i-init : goal.loop-i-init
 loop-i-init c = let z : length c.args.out.now - 0 ≡ length c.args.out.now = omega arith in (omega arith, refl, c.requires.spots_value, rw z refl)
 
 -- src/reading.rt:175:9
-pub copy-requires-clause-n_in_bounds : goal.copy-requires-clause-n_in_bounds
-copy-requires-clause-n_in_bounds c = let l = inside-here (length c.args.mem.now) c.loop-i.i c.args.end c.args.spots.now c.loop-i-test.true c.loop-i.invariant.2 in omega (arith, l, c.smaller-n.ensures)
-
-pub copy-requires-clause-n_in_bounds_2 : goal.copy-requires-clause-n_in_bounds_2
-copy-requires-clause-n_in_bounds_2 c = let l = inside-here (length c.args.mem.now) c.loop-i.i c.args.end c.args.spots.now c.loop-i-test.true c.loop-i.invariant.2 in omega (arith, c.smaller-n.ensures, c.loop-i.invariant.1, c.loop-i.invariant.0)
+pub copy-requires : goal.copy-requires
+copy-requires c = let l = inside-here (length c.args.mem.now) c.loop-i.i c.args.end c.args.spots.now c.loop-i-test.true c.loop-i.invariant.2 in record { n_in_bounds = omega (arith, l, c.smaller-n.ensures); n_in_bounds_2 = omega (arith, c.smaller-n.ensures, c.loop-i.invariant.1, c.loop-i.invariant.0) }
 
 -- src/reading.rt:173:5
 pub loop-i-preserved : goal.loop-i-preserved

@@ -5,11 +5,8 @@ use borrow.Author.Tests.{eq-eqb, ne_eqb, lt-ltb, le-ltb}
 use Rattle.driver.proofs.reading.judge.Goals as goal
 
 -- src/reading.rt:43:13
-pub pending-n-requires-clause-idx_bound : goal.pending-n-requires-clause-idx_bound
-pending-n-requires-clause-idx_bound c = let k = countable-ok _ _ _ _ (sym c.countable.ensures ∙ c.if-countable.true) in k.1
-
-pub pending-n-requires-clause-taken_bound : goal.pending-n-requires-clause-taken_bound
-pending-n-requires-clause-taken_bound c = let k = countable-ok _ _ _ _ (sym c.countable.ensures ∙ c.if-countable.true) in k.2
+pub pending-n-requires : goal.pending-n-requires
+pending-n-requires c = let k = countable-ok _ _ _ _ (sym c.countable.ensures ∙ c.if-countable.true) in record { idx_bound = k.1; taken_bound = k.2 }
 
 -- src/reading.rt:45:13
 pub returns-then-n-eq0 : goal.returns-then-n-eq0

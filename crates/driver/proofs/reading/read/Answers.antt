@@ -4,11 +4,8 @@ use Rattle.driver.proofs.Answers.{spots-in-ok}
 use Rattle.driver.proofs.reading.read.Goals as goal
 
 -- src/reading.rt:187:9
-pub collect-requires-clause-end_in_bounds : goal.collect-requires-clause-end_in_bounds
-collect-requires-clause-end_in_bounds c = let s = spots-in-ok _ _ _ _ (sym c.spots_in.ensures ∙ c.if-spots_in.true) in s.long
-
-pub collect-requires-clause-spots_value : goal.collect-requires-clause-spots_value
-collect-requires-clause-spots_value c = let s = spots-in-ok _ _ _ _ (sym c.spots_in.ensures ∙ c.if-spots_in.true) in s.all_in
+pub collect-requires : goal.collect-requires
+collect-requires c = let s = spots-in-ok _ _ _ _ (sym c.spots_in.ensures ∙ c.if-spots_in.true) in record { end_in_bounds = s.long; spots_value = s.all_in }
 
 -- src/reading.rt:188:9
 pub returns-then-spots_in : goal.returns-then-spots_in

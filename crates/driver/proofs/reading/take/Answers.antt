@@ -31,10 +31,6 @@ unfolding taken own_after
 returns-in-Strange-clause-own_after c = refl
 
 -- src/reading.rt:117:1
-pub returns-in-Answer-clause-value : goal.returns-in-Answer-clause-value
+pub returns-in-Answer : goal.returns-in-Answer
 unfolding taken own_after
-returns-in-Answer-clause-value c = let e = sym c.judge-t.ensures ∙ c.in-Answer.is in let k = judged-answer _ _ _ _ _ _ _ _ _ e in rw (← c.used_word-id.ensures, ← c.used_word-len.ensures, e)
-
-pub returns-in-Answer-clause-own_after : goal.returns-in-Answer-clause-own_after
-unfolding taken own_after
-returns-in-Answer-clause-own_after c = let e = sym c.judge-t.ensures ∙ c.in-Answer.is in let k = judged-answer _ _ _ _ _ _ _ _ _ e in rw (← k.queue-is) c.release.ensures
+returns-in-Answer c = let e = sym c.judge-t.ensures ∙ c.in-Answer.is in let k = judged-answer _ _ _ _ _ _ _ _ _ e in record { value = rw (← c.used_word-id.ensures, ← c.used_word-len.ensures, e); own_after = rw (← k.queue-is) c.release.ensures }

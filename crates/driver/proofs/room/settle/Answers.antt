@@ -11,13 +11,9 @@ pub loop-i-init : goal.loop-i-init
 loop-i-init c = let z : c.args.e - 0 ≡ c.args.e = omega arith in (refl, rw z refl, rw z refl)
 
 -- src/room.rt:74:13
-pub returns-in_default-clause-value : goal.returns-in_default-clause-value
+pub returns-in_default : goal.returns-in_default
 unfolding is_at
-returns-in_default-clause-value c = let f = sym c.spot_of-found.ensures ∙ c.in_default.is in let t = c.loop-i-test.true in sym (c.loop-i.invariant.1 ∙ rw (in-turn _ _ _ _ t, f))
-
-pub returns-in_default-clause-spots_after : goal.returns-in_default-clause-spots_after
-unfolding is_at
-returns-in_default-clause-spots_after c = let f = sym c.spot_of-found.ensures ∙ c.in_default.is in let t = c.loop-i-test.true in sym (c.loop-i.invariant.2 ∙ rw (settled-turn _ _ _ _ _ t, f))
+returns-in_default c = let f = sym c.spot_of-found.ensures ∙ c.in_default.is in let t = c.loop-i-test.true in record { value = sym (c.loop-i.invariant.1 ∙ rw (in-turn _ _ _ _ t, f)); spots_after = sym (c.loop-i.invariant.2 ∙ rw (settled-turn _ _ _ _ _ t, f)) }
 
 -- src/room.rt:70:5
 pub loop-i-preserved : goal.loop-i-preserved

@@ -6,27 +6,12 @@ use Rattle.driver.proofs.Laws.{write-stores}
 use Rattle.driver.proofs.writes.write.Goals as goal
 
 -- src/writes.rt:113:5
-pub spread-requires-clause-n_in_bounds : goal.spread-requires-clause-n_in_bounds
-spread-requires-clause-n_in_bounds c = let f = c.requires in let z : c.args.reads - 0 ≡ c.args.reads = omega arith in omega arith
-
-pub spread-requires-clause-end_in_bounds : goal.spread-requires-clause-end_in_bounds
-spread-requires-clause-end_in_bounds c = let f = c.requires in let z : c.args.reads - 0 ≡ c.args.reads = omega arith in omega (arith, f.reads_in, f.spots-long)
-
-pub spread-requires-clause-chain_value : goal.spread-requires-clause-chain_value
-spread-requires-clause-chain_value c = let f = c.requires in let z : c.args.reads - 0 ≡ c.args.reads = omega arith in rw z f.buffers-in
+pub spread-requires : goal.spread-requires
+spread-requires c = let f = c.requires in let z : c.args.reads - 0 ≡ c.args.reads = omega arith in record { n_in_bounds = omega arith; end_in_bounds = omega (arith, f.reads_in, f.spots-long); chain_value = rw z f.buffers-in }
 
 -- src/writes.rt:114:5
-pub chain_up-requires-clause-size_in_bounds : goal.chain_up-requires-clause-size_in_bounds
-chain_up-requires-clause-size_in_bounds c = let f = c.requires in omega (arith, f.desc-in, c.spread.auto.mem)
-
-pub chain_up-requires-clause-e_in_bounds : goal.chain_up-requires-clause-e_in_bounds
-chain_up-requires-clause-e_in_bounds c = let f = c.requires in omega arith
-
-pub chain_up-requires-clause-e_in_bounds_2 : goal.chain_up-requires-clause-e_in_bounds_2
-chain_up-requires-clause-e_in_bounds_2 c = let f = c.requires in f.nums-long
-
-pub chain_up-requires-clause-numbers : goal.chain_up-requires-clause-numbers
-chain_up-requires-clause-numbers c = let f = c.requires in f.numbers
+pub chain_up-requires : goal.chain_up-requires
+chain_up-requires c = let f = c.requires in record { size_in_bounds = omega (arith, f.desc-in, c.spread.auto.mem); e_in_bounds = omega arith; e_in_bounds_2 = f.nums-long; numbers = f.numbers }
 
 -- src/writes.rt:115:37
 pub overflow_mul-next : goal.overflow_mul-next
