@@ -14,6 +14,9 @@ use Rattle.model.specs.Step.{spans}
 use Rattle.model.specs.declared.Queue.{Queue}
 use Rattle.model.proofs.Tests.{picked, on}
 use Rattle.model.proofs.Lists.{length-put, put_in, put-below}
+use Rattle.std.specs.Prelude.{Result, Ok, Err}
+use Rattle.driver.specs.declared.NotLaid.{NotLaid}
+use Rattle.driver.specs.declared.NotLaid.TheVariants.{Memory, Counts, Outside, Form, Overlap, TooFew}
 use Rattle.driver.specs.Lay.{spot_at, is_at, place_of, in_memory, settled, spots_of, area_words, form_ok, separate, free, ready, counts_ok, plan_on, plan, Plan, planned}
 use Rattle.driver.proofs.Laws.{counts-ok}
 use Rattle.driver.proofs.Fits.{settled-long, spots-long}
@@ -60,8 +63,8 @@ spans-same (suc n) i xs ys f =
     rw (f (2 * i) (omega arith), f (2 * i + 1) (omega arith), spans-same n (suc i) xs ys (λ k u. f k (omega arith)))
 
 -- two plans by the same tests
-tests_same : (a b : Bool) (x x₂ y y₂ z z₂ : Plan) → x.code ≡ x₂.code → y.code ≡ y₂.code → z.code ≡ z₂.code
-    → (pick a (pick b x y) z).code ≡ (pick a (pick b x₂ y₂) z₂).code
+tests_same : (a b : Bool) (x x₂ y y₂ z z₂ : Plan) → x.answer ≡ x₂.answer → y.answer ≡ y₂.answer → z.answer ≡ z₂.answer
+    → (pick a (pick b x y) z).answer ≡ (pick a (pick b x₂ y₂) z₂).answer
 tests_same true true x x₂ y y₂ z z₂ e f g = e
 tests_same true false x x₂ y y₂ z z₂ e f g = f
 tests_same false b x x₂ y y₂ z z₂ e f g = g
@@ -73,19 +76,19 @@ form-same kind r reads e spots spots₂ h f =
     rw (spans-same reads 0 spots spots₂ (λ k u. f k (omega arith)), spans-same (e - reads) reads spots spots₂ (λ k u. f k (omega arith)))
 
 on_same : (q : ℕ) (own : List ℕ) (kind r reads e : ℕ) (spots spots₂ nums nums₂ : List ℕ) → reads ≤ e → ((k : ℕ) → k < 2 * e + 6 → get_or spots k 0 ≡ get_or spots₂ k 0)
-    → (plan_on q own kind r reads e spots nums).code ≡ (plan_on q own kind r reads e spots₂ nums₂).code
+    → (plan_on q own kind r reads e spots nums).answer ≡ (plan_on q own kind r reads e spots₂ nums₂).answer
 unfolding plan_on
 on_same q own kind r reads e spots spots₂ nums nums₂ h f =
-    let c : ℕ = pick (leb e (length (free q own))) 0 65 in
+    let c : Result Unit NotLaid = pick (leb e (length (free q own))) (Ok tt) (Err TooFew) in
     let ns : List ℕ = take e (free q own) in
     rw (form-same kind r reads e spots spots₂ h f, spans-same (e + 3) 0 spots spots₂ (λ k u. f k (omega arith)))
-    (tests_same (form_ok kind r spots₂ reads e) (separate (spans (e + 3) 0 spots₂)) (planned c spots (put nums 0 ns)) (planned c spots₂ (put nums₂ 0 ns)) (planned 64 spots nums)
-    (planned 64 spots₂ nums₂) (planned 63 spots nums) (planned 63 spots₂ nums₂) refl refl refl)
+    (tests_same (form_ok kind r spots₂ reads e) (separate (spans (e + 3) 0 spots₂)) (planned c spots (put nums 0 ns)) (planned c spots₂ (put nums₂ 0 ns)) (planned (Err Overlap) spots nums)
+    (planned (Err Overlap) spots₂ nums₂) (planned (Err Form) spots nums) (planned (Err Form) spots₂ nums₂) refl refl refl)
 
 -- Laying answers the same with other private memory of the same lengths.
 pub plan-again : (q : Queue) (rs : List Region) (m : ℕ) (own : List ℕ) (kind r : ℕ) (bufs : List ℕ) (reads : ℕ) (spots nums spots₂ nums₂ : List ℕ)
     → length spots ≡ length spots₂ → length nums ≡ length nums₂
-    → (plan q rs m own kind r bufs reads spots nums).code ≡ (plan q rs m own kind r bufs reads spots₂ nums₂).code
+    → (plan q rs m own kind r bufs reads spots nums).answer ≡ (plan q rs m own kind r bufs reads spots₂ nums₂).answer
 unfolding plan
 plan-again q rs m own kind r bufs reads spots nums spots₂ nums₂ ls ln =
     rw (← ls, ← ln)
@@ -94,14 +97,14 @@ plan-again q rs m own kind r bufs reads spots nums spots₂ nums₂ ls ln =
     go : (a b : Bool) → counts_ok q.size (length bufs) reads (length spots) (length nums) ≡ b → (t : Bool) → in_memory rs bufs (length bufs / 2) 0 ≡ t
         → (pick a
         (pick b
-        (pick t (plan_on q.size own kind r reads (length bufs / 2) (spots_of q rs bufs (length bufs / 2) spots) nums) (planned 62 (settled rs bufs (length bufs / 2) 0 spots) nums))
-        (planned 61 spots nums))
-        (planned 60 spots nums)).code
+        (pick t (plan_on q.size own kind r reads (length bufs / 2) (spots_of q rs bufs (length bufs / 2) spots) nums) (planned (Err Outside) (settled rs bufs (length bufs / 2) 0 spots) nums))
+        (planned (Err Counts) spots nums))
+        (planned (Err Memory) spots nums)).answer
         ≡ (pick a
         (pick b
-        (pick t (plan_on q.size own kind r reads (length bufs / 2) (spots_of q rs bufs (length bufs / 2) spots₂) nums₂) (planned 62 (settled rs bufs (length bufs / 2) 0 spots₂) nums₂))
-        (planned 61 spots₂ nums₂))
-        (planned 60 spots₂ nums₂)).code
+        (pick t (plan_on q.size own kind r reads (length bufs / 2) (spots_of q rs bufs (length bufs / 2) spots₂) nums₂) (planned (Err Outside) (settled rs bufs (length bufs / 2) 0 spots₂) nums₂))
+        (planned (Err Counts) spots₂ nums₂))
+        (planned (Err Memory) spots₂ nums₂)).answer
     go true true x true y =
         let k = counts-ok q.size (length bufs) reads (length spots) (length nums) x in
         on_same q.size own kind r reads (length bufs / 2) (spots_of q rs bufs (length bufs / 2) spots) (spots_of q rs bufs (length bufs / 2) spots₂) nums nums₂ k.reads_in

@@ -21,8 +21,9 @@ use Rattle.requests.specs.Serve.{gather}
 use Rattle.driver.specs.Take.{freed, released, spots_in, countable, judged, outstanding}
 use Rattle.driver.proofs.Laws.{queue-ok}
 use Rattle.model.specs.Ring.{pending, plus_one, size_max}
-use Rattle.driver.specs.declared.Taken.{Taken}
-use Rattle.driver.specs.declared.Taken.TheVariants.{Answer}
+use Rattle.std.specs.Prelude.{Option, Some, Result, Ok}
+use Rattle.driver.specs.declared.Answer.{Answer}
+use Rattle.driver.specs.declared.Strange.{Strange}
 use Rattle.driver.specs.declared.Driver.{Driver}
 
 -- one descriptor more is looked at
@@ -122,31 +123,25 @@ countable-ok d m own idx t =
     (omega told, omega told, omega told)
 
 -- an answer that is taken names a descriptor of the queue
-pub record Named (d : Driver) (own : List ℕ) (d₂ : Driver) (head : ℕ) : Type 0 where
-  pub queue-is : d₂.queue.size ≡ d.queue.size
+pub record Named (d : Driver) (own : List ℕ) (head : ℕ) : Type 0 where
   pub head_in : head < d.queue.size
   pub own-long : d.queue.size ≤ length own
   pub small : d.queue.size ≤ size_max
 
-pub judged-answer : (d : Driver) (m : ℕ) (own : List ℕ) (idx id len : ℕ) (d₂ : Driver) (head n : ℕ) → judged d m own idx id len ≡ Answer d₂ head n → Named d own d₂ head
+pub judged-answer : (d : Driver) (m : ℕ) (own : List ℕ) (idx id len : ℕ) (a : Answer) → judged d m own idx id len ≡ Ok (Some a) → Named d own a.head
 unfolding judged outstanding countable
-judged-answer d m own idx id len d₂ head n =
-    let P : Taken → Type 0 = λ t. t ≡ Answer d₂ head n → Named d own d₂ head in
+judged-answer d m own idx id len a =
+    let P : Result (Option Answer) Strange → Type 0 = λ t. t ≡ Ok (Some a) → Named d own a.head in
     on P (countable d m (length own) idx)
-    (λ a. on P (eqb (pending idx d.seen) 0) (λ b e. let z : ◌≡◌ {A = ℕ} 0 1 = cc in absurd (omega arith))
-    (λ b. on P (ltb d.queue.size (pending idx d.seen)) (λ c e. let z : ◌≡◌ {A = ℕ} 0 1 = cc in absurd (omega arith))
+    (λ k. on P (eqb (pending idx d.seen) 0) (λ b e. absurd (cc))
+    (λ b. on P (ltb d.queue.size (pending idx d.seen)) (λ c e. absurd (cc))
     (λ c. on P (both (ltb id d.queue.size) (eqb (get_or own id 0) (suc id)))
     (λ o e.
-    let p = countable-ok d m (length own) idx a in
-    let q = both-split (queue_in d.queue m) _ a in
-    let k = queue-ok d.queue m q.0 in
-    let h : id ≡ head = cc in
-    let g : record { queue = d.queue; next = d.next; seen = plus_one d.seen } ≡ d₂ = cc in
-    record {
-      queue-is = ap (λ (x : Driver). x.queue.size) (sym g);
-      head_in = omega (arith, ltb-true id d.queue.size (both-split (ltb id d.queue.size) _ o).0);
-      own-long = p.0;
-      small = k.small;
-    })
-    (λ o e. let z : ◌≡◌ {A = ℕ} 0 1 = cc in absurd (omega arith)))))
-    (λ a e. let z : ◌≡◌ {A = ℕ} 0 1 = cc in absurd (omega arith))
+    let p = countable-ok d m (length own) idx k in
+    let q = both-split (queue_in d.queue m) _ k in
+    let s = queue-ok d.queue m q.0 in
+    let g : record { driver = record { queue = d.queue; next = d.next; seen = plus_one d.seen }; head = id; len = len } ≡ a = cc in
+    let h : id ≡ a.head = ap (λ (x : Answer). x.head) g in
+    record { head_in = omega (arith, ltb-true id d.queue.size (both-split (ltb id d.queue.size) _ o).0); own-long = p.0; small = s.small })
+    (λ o e. absurd (cc)))))
+    (λ k e. absurd (cc))

@@ -24,6 +24,9 @@ use native.Mathlib.Nat.{zero-add}
 use Rattle.model.proofs.Lists.{length-put, put_in, put-below}
 use Rattle.requests.specs.Serve.{total}
 use Rattle.driver.specs.Lay.{spot_of, spot_at, is_at, place_of, in_memory, settled, spots_of, area_words, formed, measured, form_ok, separate, free, ready, counts_ok, plan_on, plan, Plan, PlanIs}
+use Rattle.std.specs.Prelude.{Result, Ok, Err}
+use Rattle.driver.specs.declared.NotLaid.{NotLaid}
+use Rattle.driver.specs.declared.NotLaid.TheVariants.{TooFew}
 use Rattle.driver.specs.Fit.{Spot, Areas, LayFit, Numbers, WriteFit}
 use Rattle.driver.proofs.Laws.{ReadyOk, ready-ok, CountsOk, counts-ok}
 use Rattle.driver.proofs.Formed.{formed-ok}
@@ -145,20 +148,20 @@ pub record Settling (q : ℕ) (own : List ℕ) (kind r reads e : ℕ) (spots num
   pub enough : e ≤ length (free q own)
   pub nums-are : after ≡ put nums 0 (take e (free q own))
 
-plan-on-ok : (q : ℕ) (own : List ℕ) (kind r reads e : ℕ) (spots nums : List ℕ) → (plan_on q own kind r reads e spots nums).code ≡ 0
+plan-on-ok : (q : ℕ) (own : List ℕ) (kind r reads e : ℕ) (spots nums : List ℕ) → (plan_on q own kind r reads e spots nums).answer ≡ Ok tt
     → Settling q own kind r reads e spots nums (plan_on q own kind r reads e spots nums).nums × ((plan_on q own kind r reads e spots nums).spots ≡ spots)
 unfolding plan_on
 plan-on-ok q own kind r reads e spots nums =
-    let P : Plan → Type 0 = λ p. p.code ≡ 0 → Settling q own kind r reads e spots nums p.nums × (p.spots ≡ spots) in
+    let P : Plan → Type 0 = λ p. p.answer ≡ Ok tt → Settling q own kind r reads e spots nums p.nums × (p.spots ≡ spots) in
     on P (form_ok kind r spots reads e)
     (λ f. on P (separate (spans (e + 3) 0 spots))
-    (λ a z. (record { form-is = f; apart-is = a; enough = leb-true e (length (free q own)) (zero-picked (leb e (length (free q own))) z); nums-are = refl }, refl))
-    (λ a z. absurd (omega arith)))
-    (λ f z. absurd (omega arith))
+    (λ a z. (record { form-is = f; apart-is = a; enough = leb-true e (length (free q own)) (enough-picked (leb e (length (free q own))) z); nums-are = refl }, refl))
+    (λ a z. absurd (cc)))
+    (λ f z. absurd (cc))
   where
-    zero-picked : (b : Bool) → ◌≡◌ {A = ℕ} (pick b 0 65) 0 → b ≡ true
-    zero-picked true z = refl
-    zero-picked false z = absurd (omega arith)
+    enough-picked : (b : Bool) → ◌≡◌ {A = Result Unit NotLaid} (pick b (Ok tt) (Err TooFew)) (Ok tt) → b ≡ true
+    enough-picked true z = refl
+    enough-picked false z = absurd (cc)
 
 measured-is : (ss : List Span) (n : ℕ) → measured ss ≡ n → n ≤ 2097152 → total ss ≡ n
 unfolding measured
@@ -208,14 +211,14 @@ fits-settled q rs m own kind r bufs reads spots nums after k c t s =
     long : length (spots_of q rs bufs (length bufs / 2) spots) ≡ length spots
     long = spots-long q rs bufs (length bufs / 2) spots
 
--- laying answers 0: the request fits
+-- laying refuses nothing: the request fits
 pub plan-fits : (q : Queue) (rs : List Region) (m : ℕ) (own : List ℕ) (kind r : ℕ) (bufs : List ℕ) (reads : ℕ) (spots nums : List ℕ)
-    → (plan q rs m own kind r bufs reads spots nums).code ≡ 0
+    → (plan q rs m own kind r bufs reads spots nums).answer ≡ Ok tt
     → LayFit q rs m own kind r bufs reads (length bufs / 2) (plan q rs m own kind r bufs reads spots nums).spots (plan q rs m own kind r bufs reads spots nums).nums
 unfolding plan
 plan-fits q rs m own kind r bufs reads spots nums =
     let e = length bufs / 2 in
-    let P : Plan → Type 0 = λ p. p.code ≡ 0 → LayFit q rs m own kind r bufs reads e p.spots p.nums in
+    let P : Plan → Type 0 = λ p. p.answer ≡ Ok tt → LayFit q rs m own kind r bufs reads e p.spots p.nums in
     on P (ready q rs m (length own))
     (λ a. on P (counts_ok q.size (length bufs) reads (length spots) (length nums))
     (λ b. on P (in_memory rs bufs e 0)
@@ -223,9 +226,9 @@ plan-fits q rs m own kind r bufs reads spots nums =
     rw s.1
     (fits-settled q rs m own kind r bufs reads spots nums (plan_on q.size own kind r reads e (spots_of q rs bufs e spots) nums).nums (ready-ok q rs m (length own) a)
     (counts-ok q.size (length bufs) reads (length spots) (length nums) b) t s.0))
-    (λ t z. absurd (omega arith)))
-    (λ b z. absurd (omega arith)))
-    (λ a z. absurd (omega arith))
+    (λ t z. absurd (cc)))
+    (λ b z. absurd (cc)))
+    (λ a z. absurd (cc))
 
 -- what the writes stand on
 pub fit-writes : (q : Queue) (rs : List Region) (m : ℕ) (own : List ℕ) (kind r : ℕ) (bufs : List ℕ) (reads e : ℕ) (spots nums : List ℕ)
@@ -254,10 +257,10 @@ fit-notes q rs m own kind r bufs reads e spots nums f =
     (o.header-in, (w.some, (f.nums-long, λ i u. omega (arith, f.numbers i u, f.own-long))))
 
 -- a request that was laid fits, with the private memory as it is left
-pub laid-fits : (q : Queue) (rs : List Region) (m : ℕ) (own : List ℕ) (kind r : ℕ) (bufs : List ℕ) (reads : ℕ) (spots nums : List ℕ) (code : ℕ) (spots₂ nums₂ : List ℕ)
-    → PlanIs (plan q rs m own kind r bufs reads spots nums) code spots₂ nums₂ → code ≡ 0 → LayFit q rs m own kind r bufs reads (length bufs / 2) spots₂ nums₂
-laid-fits q rs m own kind r bufs reads spots nums code spots₂ nums₂ p z =
-    rw (p.spots-are, p.nums-are) (plan-fits q rs m own kind r bufs reads spots nums (sym p.code_is ∙ z))
+pub laid-fits : (q : Queue) (rs : List Region) (m : ℕ) (own : List ℕ) (kind r : ℕ) (bufs : List ℕ) (reads : ℕ) (spots nums spots₂ nums₂ : List ℕ)
+    → PlanIs (plan q rs m own kind r bufs reads spots nums) (Ok tt) spots₂ nums₂ → LayFit q rs m own kind r bufs reads (length bufs / 2) spots₂ nums₂
+laid-fits q rs m own kind r bufs reads spots nums spots₂ nums₂ p =
+    rw (p.spots-are, p.nums-are) (plan-fits q rs m own kind r bufs reads spots nums (sym p.answer-is))
 
 pub one-more-mod : (n : ℕ) → plus_one (n % 65536) ≡ plus_one n
 unfolding plus_one

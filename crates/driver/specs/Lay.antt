@@ -1,6 +1,6 @@
 -- Laying a request (03 §7): what the driver refuses, and what it writes. A request is a type, a sector, the message (16 bytes for the header, then
 -- the data for the disk) and its buffers, two words each, guest address and length: the first `reads` of them readable, the others writable.
-use Rattle.std.specs.Prelude.{ℕ, zero, suc, ◌+◌, ◌-◌, ◌*◌, ◌/◌, ◌%◌, ◌^◌, min, Bool, true, false, List, [], ◌∷◌, ◌++◌, ◌≡◌, leb, ltb, eqb, get_or, length, take, set}
+use Rattle.std.specs.Prelude.{ℕ, zero, suc, ◌+◌, ◌-◌, ◌*◌, ◌/◌, ◌%◌, ◌^◌, min, Bool, true, false, List, [], ◌∷◌, ◌++◌, ◌≡◌, leb, ltb, eqb, get_or, length, take, set, Result, Ok, Err}
 use Rattle.model.specs.Pick.{pick, both}
 use Rattle.model.specs.Bytes.{put, part, bytes}
 use Rattle.model.specs.Memory.{Region, regions, memory_code, overlap, sound, locate}
@@ -15,7 +15,18 @@ use Rattle.requests.specs.Serve.{total}
 use Rattle.driver.specs.declared.Driver.{Driver}
 use Rattle.driver.specs.declared.Attached.{Attached}
 use Rattle.driver.specs.declared.Laid.{Laid}
-use Rattle.driver.specs.declared.Laid.TheVariants.{Refused, Head}
+use Rattle.driver.specs.declared.NotLaid.{NotLaid}
+use Rattle.driver.specs.declared.NotLaid.TheVariants.{Memory, Counts, Outside, Form, Overlap, TooFew}
+
+-- "60 this memory is not the queue's · 61 the numbers of buffers · 62 a buffer isn't in memory · 63 no request that a disk could accept · 64 buffers
+-- overlap each other or an area of the queue · 65 too few free descriptors"
+abbrev pub number : NotLaid → ℕ
+number Memory = 60
+number Counts = 61
+number Outside = 62
+number Form = 63
+number Overlap = 64
+number TooFew = 65
 
 -- "The first 16 readable bytes are the header: type u32, reserved u32 (ignored), sector u64."
 unfoldable pub header : ℕ → ℕ → List ℕ
@@ -136,42 +147,41 @@ counts_ok q words reads spots nums =
     both (eqb (words % 2) 0)
     (both (leb (words / 2) q) (both (leb reads (words / 2)) (both (leb (2 * (words / 2) + 6) spots) (leb (words / 2) nums))))
 
--- What laying answers, 0 or a refusal, and what it has made of the private memory by then.
+-- What laying answers before it writes, and what it has made of the private memory by then.
 pub record Plan : Type 0 where
-  pub code : ℕ
+  pub answer : Result Unit NotLaid
   pub spots : List ℕ
   pub nums : List ℕ
 
-abbrev pub planned : ℕ → List ℕ → List ℕ → Plan
-planned code spots nums = record { code = code; spots = spots; nums = nums }
+abbrev pub planned : Result Unit NotLaid → List ℕ → List ℕ → Plan
+planned answer spots nums = record { answer = answer; spots = spots; nums = nums }
 
--- "63 no request that a disk could accept · 64 buffers overlap each other or an area of the queue · 65 too few free descriptors"
 unfoldable pub plan_on : ℕ → List ℕ → ℕ → ℕ → ℕ → ℕ → List ℕ → List ℕ → Plan
 plan_on q own kind r reads e spots nums =
     pick (form_ok kind r spots reads e)
     (pick (separate (spans (e + 3) 0 spots))
-    (planned (pick (leb e (length (free q own))) 0 65) spots (put nums 0 (take e (free q own))))
-    (planned 64 spots nums))
-    (planned 63 spots nums)
+    (planned (pick (leb e (length (free q own))) (Ok tt) (Err TooFew)) spots (put nums 0 (take e (free q own))))
+    (planned (Err Overlap) spots nums))
+    (planned (Err Form) spots nums)
 
 -- the spots of a request's e buffers, the areas' behind them
 unfoldable pub spots_of : Queue → List Region → List ℕ → ℕ → List ℕ → List ℕ
 spots_of q rs bufs e spots = put (settled rs bufs e 0 spots) (2 * e) (area_words q)
 
--- "60 this memory is not the queue's · 61 the numbers of buffers · 62 a buffer isn't in memory", then as above; m bytes of memory, r of message
+-- m bytes of memory, r of message
 unfoldable pub plan : Queue → List Region → ℕ → List ℕ → ℕ → ℕ → List ℕ → ℕ → List ℕ → List ℕ → Plan
 plan q rs m own kind r bufs reads spots nums =
     pick (ready q rs m (length own))
     (pick (counts_ok q.size (length bufs) reads (length spots) (length nums))
     (pick (in_memory rs bufs (length bufs / 2) 0)
     (plan_on q.size own kind r reads (length bufs / 2) (spots_of q rs bufs (length bufs / 2) spots) nums)
-    (planned 62 (settled rs bufs (length bufs / 2) 0 spots) nums))
-    (planned 61 spots nums))
-    (planned 60 spots nums)
+    (planned (Err Outside) (settled rs bufs (length bufs / 2) 0 spots) nums))
+    (planned (Err Counts) spots nums))
+    (planned (Err Memory) spots nums)
 
 -- the contract of `plan`: the answer and the private memory afterwards
-pub record PlanIs (p : Plan) (r : ℕ) (spots nums : List ℕ) : Type 0 where
-  pub code_is : r ≡ p.code
+pub record PlanIs (p : Plan) (r : Result Unit NotLaid) (spots nums : List ℕ) : Type 0 where
+  pub answer-is : r ≡ p.answer
   pub spots-are : spots ≡ p.spots
   pub nums-are : nums ≡ p.nums
 
@@ -188,32 +198,35 @@ lay_stores q nx message reads e bufs spots nums =
 
 -- what laying leaves in every lent slice, and the driver afterwards
 pub record Lay : Type 0 where
-  pub answer : Laid
+  pub answer : Result Laid NotLaid
   pub mem : List ℕ
   pub own : List ℕ
   pub message : List ℕ
   pub spots : List ℕ
   pub nums : List ℕ
 
-unfoldable pub lay_on : Driver → List ℕ → List ℕ → ℕ → ℕ → List ℕ → List ℕ → ℕ → Plan → Lay
-lay_on d own mem kind sector message bufs reads p =
-    pick (eqb p.code 0)
-    (record {
-      answer = Head (record { queue = d.queue; next = plus_one d.next; seen = d.seen }) (get_or p.nums 0 0);
+unfoldable pub lay_with : Driver → List ℕ → List ℕ → ℕ → ℕ → List ℕ → List ℕ → ℕ → Plan → Result Unit NotLaid → Lay
+lay_with d own mem kind sector message bufs reads p (Ok _) =
+    record {
+      answer = Ok (record { driver = record { queue = d.queue; next = plus_one d.next; seen = d.seen }; head = get_or p.nums 0 0 });
       mem = apply (lay_stores d.queue d.next (put message 0 (header kind sector)) reads (length bufs / 2) bufs p.spots p.nums) mem;
       own = marked (part 0 (length bufs / 2) p.nums) (1 + get_or p.nums 0 0) own;
       message = put message 0 (header kind sector);
       spots = p.spots;
       nums = p.nums;
-    })
-    (record { answer = Refused p.code; mem = mem; own = own; message = message; spots = p.spots; nums = p.nums })
+    }
+lay_with d own mem kind sector message bufs reads p (Err e) =
+    record { answer = Err e; mem = mem; own = own; message = message; spots = p.spots; nums = p.nums }
+
+abbrev pub lay_on : Driver → List ℕ → List ℕ → ℕ → ℕ → List ℕ → List ℕ → ℕ → Plan → Lay
+lay_on d own mem kind sector message bufs reads p = lay_with d own mem kind sector message bufs reads p p.answer
 
 unfoldable pub lay : Driver → List ℕ → List Region → List ℕ → ℕ → ℕ → List ℕ → List ℕ → ℕ → List ℕ → List ℕ → Lay
 lay d own rs mem kind sector message bufs reads spots nums =
     lay_on d own mem kind sector message bufs reads (plan d.queue rs (length mem) own kind (length message) bufs reads spots nums)
 
 -- the contract of `lay`: the answer, and every lent slice afterwards
-pub record LayIs (x : Lay) (r : Laid) (mem own message spots nums : List ℕ) : Type 0 where
+pub record LayIs (x : Lay) (r : Result Laid NotLaid) (mem own message spots nums : List ℕ) : Type 0 where
   pub answer-is : r ≡ x.answer
   pub mem_is : mem ≡ x.mem
   pub own_is : own ≡ x.own
@@ -221,9 +234,9 @@ pub record LayIs (x : Lay) (r : Laid) (mem own message spots nums : List ℕ) : 
   pub spots-are : spots ≡ x.spots
   pub nums-are : nums ≡ x.nums
 
--- idx of the available ring becomes the driver's next; 60 where this memory is not the queue's
-unfoldable pub publish_code : Driver → ℕ → ℕ
-publish_code d m = pick (queue_in d.queue m) 0 60
+-- idx of the available ring becomes the driver's next, where this memory is the queue's
+unfoldable pub publish_answer : Driver → ℕ → Result Unit NotLaid
+publish_answer d m = pick (queue_in d.queue m) (Ok tt) (Err Memory)
 
 unfoldable pub published : Driver → List ℕ → List ℕ
 published d mem = pick (queue_in d.queue (length mem)) (put mem (d.queue.avail + 2) (bytes 2 d.next)) mem

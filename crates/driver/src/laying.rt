@@ -2,9 +2,9 @@
 // before the idx that covers it, so the caller's barrier goes between them.
 ghost use Rattle.std.specs.Prelude.{◌≡◌, length};
 ghost use Rattle.model.specs.Memory.{regions};
-ghost use Rattle.driver.specs.Lay.{attached_with, attached, lay, LayIs, publish_code, published};
+ghost use Rattle.driver.specs.Lay.{attached_with, attached, lay, LayIs, publish_answer, published};
 
-use crate::{Ask, Attached, Driver, Laid, plan, room, writes};
+use crate::{Ask, Attached, Driver, Laid, NotLaid, plan, room, writes};
 use model::Areas;
 
 fn attached_with(start: usize, found: Areas) -> Attached
@@ -57,11 +57,11 @@ pub fn lay(
     bufs: &[usize],
     spots: &mut [usize],
     nums: &mut [usize],
-) -> Laid
+) -> Result<Laid, NotLaid>
     ensures { LayIs (lay d own.old (regions map.now) mem.old ask.kind ask.sector message.old bufs.now ask.reads spots.old nums.old) result mem.new own.new message.new spots.new nums.new }
 {
     let q = d.queue;
-    let code = plan::plan(
+    plan::plan(
         q,
         map,
         mem.len(),
@@ -72,32 +72,29 @@ pub fn lay(
         ask.reads,
         spots,
         nums,
-    );
-    if code != 0 {
-        return Laid::Refused(code);
-    }
+    )?;
     let e = bufs.len() / 2;
     writes::note(own, nums, e, message, ask.kind, ask.sector);
     writes::write(q, d.next, mem, message, ask.reads, bufs, spots, nums);
-    Laid::Head(
-        Driver {
+    Ok(Laid {
+        driver: Driver {
             queue: q,
             next: ring::one_more(d.next % 65536),
             seen: d.seen,
         },
-        nums[0],
-    )
+        head: nums[0],
+    })
 }
 
 // Shows the device every request that was laid: idx of the available ring, by one store.
-pub fn publish(d: Driver, mem: &mut [u8]) -> usize
-    ensures value { result ≡ publish_code d (length mem.old) }
+pub fn publish(d: Driver, mem: &mut [u8]) -> Result<(), NotLaid>
+    ensures value { result ≡ publish_answer d (length mem.old) }
     ensures mem_after { mem.new ≡ published d mem.old }
 {
     let q = d.queue;
-    if room::queue_in(q, mem.len()) {
-        wire::put16(mem, q.avail + 2, d.next);
-        return 0;
+    if !room::queue_in(q, mem.len()) {
+        return Err(NotLaid::Memory);
     }
-    60
+    wire::put16(mem, q.avail + 2, d.next);
+    Ok(())
 }

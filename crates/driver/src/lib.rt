@@ -7,6 +7,10 @@
 //   nums   a word for each buffer of a request: scratch
 #![tactic(auto)]
 
+ghost use Rattle.std.specs.Prelude.{◌≡◌};
+ghost use Rattle.driver.specs.Lay.{number};
+ghost use Rattle.driver.specs.Take.{strange_number};
+
 use model::Queue;
 
 mod form;
@@ -39,24 +43,54 @@ pub struct Ask {
     pub reads: usize,
 }
 
-// A request was refused, or laid: the driver afterwards, and the head.
+// A request was laid: the driver afterwards, and the head.
 #[derive(Clone, Copy)]
-pub enum Laid {
-    Refused(usize),
-    Head(Driver, usize),
+pub struct Laid {
+    pub driver: Driver,
+    pub head: usize,
 }
 
-// No answer is waiting; one that is none; or an answer: the driver afterwards, head and length.
-#[derive(Clone, Copy)]
-pub enum Taken {
-    None,
-    Strange(usize),
-    Answer(Driver, usize, usize),
+// Why a request isn't laid (D22).
+#[derive(Clone, Copy, Debug, PartialEq, Eq)]
+pub enum NotLaid {
+    Memory = 60,
+    Counts = 61,
+    Outside = 62,
+    Form = 63,
+    Overlap = 64,
+    TooFew = 65,
 }
 
-// A status byte, or none.
+impl NotLaid {
+    // What programs print of it.
+    pub fn number(self) -> usize
+        ensures { result ≡ number self }
+    {
+        self as usize
+    }
+}
+
+// An answer was taken: the driver afterwards, head and length.
 #[derive(Clone, Copy)]
-pub enum Byte {
-    Unread,
-    Is(usize),
+pub struct Answer {
+    pub driver: Driver,
+    pub head: usize,
+    pub len: usize,
+}
+
+// Why what the device wrote is no answer (D22).
+#[derive(Clone, Copy, Debug, PartialEq, Eq)]
+pub enum Strange {
+    Memory = 60,
+    Ahead = 66,
+    Unknown = 67,
+}
+
+impl Strange {
+    // What programs print of it.
+    pub fn number(self) -> usize
+        ensures { result ≡ strange_number self }
+    {
+        self as usize
+    }
 }

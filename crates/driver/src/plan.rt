@@ -4,7 +4,7 @@ ghost use Rattle.model.specs.Bytes.{put};
 ghost use Rattle.model.specs.Memory.{regions};
 ghost use Rattle.driver.specs.Lay.{free, noted, plan_on, plan, PlanIs};
 
-use crate::{form, room};
+use crate::{NotLaid, form, room};
 use model::Queue;
 
 // Descriptor i is noted if it is free and still wanted.
@@ -39,7 +39,7 @@ fn choose(own: &[usize], q: usize, n: usize, nums: &mut [usize]) -> bool
     n <= k
 }
 
-// The buffers are in memory: 63, 64, 65, or 0.
+// The buffers are in memory: are they a request, apart, and no more than there are free descriptors?
 fn plan_on(
     q: usize,
     own: &[usize],
@@ -49,26 +49,26 @@ fn plan_on(
     e: usize,
     spots: &[usize],
     nums: &mut [usize],
-) -> usize
+) -> Result<(), NotLaid>
     requires q_in_bounds { q ≤ length own.now }
     requires reads_le_e { reads ≤ e }
     requires e_in_bounds { 2 * e + 6 ≤ length spots.now }
     requires e_in_bounds_2 { e ≤ length nums.old }
     ensures { PlanIs (plan_on q own.now kind r reads e spots.now nums.old) result spots.now nums.new }
 {
-    if form::form_ok(kind, r, spots, reads, e) {
-        if form::separate(spots, e + 3) {
-            if choose(own, q, e, nums) {
-                return 0;
-            }
-            return 65;
-        }
-        return 64;
+    if !form::form_ok(kind, r, spots, reads, e) {
+        return Err(NotLaid::Form);
     }
-    63
+    if !form::separate(spots, e + 3) {
+        return Err(NotLaid::Overlap);
+    }
+    if !choose(own, q, e, nums) {
+        return Err(NotLaid::TooFew);
+    }
+    Ok(())
 }
 
-// 60 to 65, or 0. m bytes of guest memory, r of message.
+// m bytes of guest memory, r of message.
 pub fn plan(
     q: Queue,
     map: &[usize],
@@ -80,19 +80,19 @@ pub fn plan(
     reads: usize,
     spots: &mut [usize],
     nums: &mut [usize],
-) -> usize
+) -> Result<(), NotLaid>
     ensures { PlanIs (plan q (regions map.now) m own.now kind r bufs.now reads spots.old nums.old) result spots.new nums.new }
 {
-    if room::ready(q, map, m, own.len()) {
-        if room::counts_ok(q.size, bufs.len(), reads, spots.len(), nums.len()) {
-            let e = bufs.len() / 2;
-            if room::settle(map, m, bufs, e, spots) {
-                room::note_areas(q, e, spots);
-                return plan_on(q.size, own, kind, r, reads, e, spots, nums);
-            }
-            return 62;
-        }
-        return 61;
+    if !room::ready(q, map, m, own.len()) {
+        return Err(NotLaid::Memory);
     }
-    60
+    if !room::counts_ok(q.size, bufs.len(), reads, spots.len(), nums.len()) {
+        return Err(NotLaid::Counts);
+    }
+    let e = bufs.len() / 2;
+    if !room::settle(map, m, bufs, e, spots) {
+        return Err(NotLaid::Outside);
+    }
+    room::note_areas(q, e, spots);
+    plan_on(q.size, own, kind, r, reads, e, spots, nums)
 }

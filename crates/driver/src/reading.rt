@@ -6,7 +6,7 @@ ghost use Rattle.model.specs.Sane.{all_inside};
 ghost use Rattle.requests.specs.Serve.{gather};
 ghost use Rattle.driver.specs.Take.{used_idx, outstanding, freed, released, countable, judged, used_word, taken, own_after, spots_in, status_of, data_of};
 
-use crate::{Byte, Driver, Taken, room};
+use crate::{Answer, Driver, Strange, room};
 
 // idx of the used ring, by one load.
 pub fn used_idx(d: Driver, mem: &[u8]) -> usize
@@ -30,32 +30,40 @@ fn outstanding(q: usize, own: &[usize], id: usize) -> bool
 }
 
 // Is there an answer, and does it name an outstanding request? Sees no guest memory.
-fn judge(d: Driver, m: usize, own: &[usize], idx: usize, id: usize, len: usize) -> Taken
+fn judge(
+    d: Driver,
+    m: usize,
+    own: &[usize],
+    idx: usize,
+    id: usize,
+    len: usize,
+) -> Result<Option<Answer>, Strange>
     ensures { result ≡ judged d m own.now idx id len }
 {
     let q = d.queue;
-    if countable(d, m, own.len(), idx) {
-        let n = ring::pending(idx, d.seen);
-        if n == 0 {
-            return Taken::None;
-        }
-        if q.size < n {
-            return Taken::Strange(66);
-        }
-        if outstanding(q.size, own, id) {
-            return Taken::Answer(
-                Driver {
-                    queue: q,
-                    next: d.next,
-                    seen: ring::one_more(d.seen),
-                },
-                id,
-                len,
-            );
-        }
-        return Taken::Strange(67);
+    if !countable(d, m, own.len(), idx) {
+        return Err(Strange::Memory);
     }
-    Taken::Strange(60)
+    let n = ring::pending(idx, d.seen);
+    if n == 0 {
+        return Ok(None);
+    }
+    if q.size < n {
+        return Err(Strange::Ahead);
+    }
+    if !outstanding(q.size, own, id) {
+        return Err(Strange::Unknown);
+    }
+    let driver = Driver {
+        queue: q,
+        next: d.next,
+        seen: ring::one_more(d.seen),
+    };
+    Ok(Some(Answer {
+        driver,
+        head: id,
+        len,
+    }))
 }
 
 // This memory is the queue's, there is a word for each descriptor, and the two indices are indices.
@@ -109,21 +117,17 @@ fn free_one(own: &mut [usize], i: usize, v: usize)
 }
 
 // The next answer, if idx (of `used_idx`) says that there is one. Its descriptors come back.
-pub fn take(d: Driver, own: &mut [usize], mem: &[u8], idx: usize) -> Taken
+pub fn take(d: Driver, own: &mut [usize], mem: &[u8], idx: usize) -> Result<Option<Answer>, Strange>
     ensures value { result ≡ taken d own.old mem.now idx }
     ensures own_after { own.new ≡ own_after d.queue.size own.old result }
 {
     let id = used_word(d, mem, 0);
     let len = used_word(d, mem, 4);
-    let t = judge(d, mem.len(), own, idx, id, len);
-    match t {
-        Taken::None => Taken::None,
-        Taken::Strange(n) => Taken::Strange(n),
-        Taken::Answer(d2, head, n) => {
-            release(own, d2.queue.size, 1 + head);
-            Taken::Answer(d2, head, n)
-        }
-    }
+    let Some(a) = judge(d, mem.len(), own, idx, id, len)? else {
+        return Ok(None);
+    };
+    release(own, d.queue.size, 1 + a.head);
+    Ok(Some(a))
 }
 
 // A request's spots: e buffers, the first `reads` readable; the writable ones lie in m bytes, and the last is not empty.
@@ -145,22 +149,16 @@ fn spots_in(m: usize, spots: &[usize], reads: usize, e: usize) -> bool
     false
 }
 
-fn wide(x: u8) -> usize
-    ensures { result ≡ x }
-{
-    x as usize
-}
-
 // The status byte of an answered request.
-pub fn status(mem: &[u8], spots: &[usize], reads: usize, e: usize) -> Byte
+pub fn status(mem: &[u8], spots: &[usize], reads: usize, e: usize) -> Option<u8>
     ensures { result ≡ status_of mem.now spots.now reads e }
 {
-    if spots_in(mem.len(), spots, reads, e) {
-        let last = e - 1;
-        let at = spots[2 * last] + (spots[2 * last + 1] - 1);
-        return Byte::Is(wide(mem[at]));
+    if !spots_in(mem.len(), spots, reads, e) {
+        return None;
     }
-    Byte::Unread
+    let last = e - 1;
+    let at = spots[2 * last] + (spots[2 * last + 1] - 1);
+    Some(mem[at])
 }
 
 // The bytes of the buffers from first up to end, as one string, as many as `out` holds.

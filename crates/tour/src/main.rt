@@ -4,7 +4,7 @@
 
 use driver::{Attached, Driver};
 use std::io;
-use trip::Trip;
+use trip::{NotDone, Trip};
 
 type Bytes = [u8; 65536];
 
@@ -57,17 +57,17 @@ fn came_back(out: &[u8; 512]) -> usize {
     n
 }
 
-fn tell(rt: &impl Print, t: Trip, out: &[u8; 512]) -> io::Result<()> {
+fn tell(rt: &impl Print, t: Result<Trip, NotDone>, out: &[u8; 512]) -> io::Result<()> {
     match t {
-        Trip::Failed(n) => {
+        Err(e) => {
             text(rt, b"failed: ")?;
-            number(rt, n)?;
+            number(rt, e.number())?;
         }
-        Trip::Both(a, b) => {
+        Ok(both) => {
             text(rt, b"written: status ")?;
-            number(rt, a)?;
+            number(rt, usize::from(both.write))?;
             text(rt, b"; read: status ")?;
-            number(rt, b)?;
+            number(rt, usize::from(both.read))?;
             text(rt, b"; bytes that came back: ")?;
             number(rt, came_back(out))?;
         }
@@ -83,7 +83,7 @@ fn round(
     backing: &mut Bytes,
     stage: &mut Stage,
     out: &mut [u8; 512],
-) -> Trip {
+) -> Result<Trip, NotDone> {
     let mut chain = [0; 16];
     let mut own = [0; 8];
     let mut spots = [0; 24];

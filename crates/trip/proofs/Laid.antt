@@ -8,6 +8,15 @@ use Rattle.model.specs.Step.{apply, scatter, spans}
 use Rattle.model.specs.declared.Queue.{Queue}
 use Rattle.driver.specs.Lay.{header, descriptor, link, links, avail_at, lay_stores}
 use Rattle.trips.specs.Stands.{published}
+use Rattle.std.specs.Prelude.{◌≡◌, Result, Ok, Err, length}
+use Rattle.std.proofs.Common.{refl}
+use Rattle.model.specs.Memory.{Region}
+use Rattle.driver.specs.Lay.{plan, lay, lay_with, publish_answer}
+use Rattle.driver.specs.declared.Driver.{Driver}
+use Rattle.driver.specs.declared.Laid.{Laid}
+use Rattle.driver.specs.declared.NotLaid.{NotLaid}
+use Rattle.driver.proofs.Fits.{plan-fits}
+use Rattle.trips.proofs.Calls.{queue-in}
 use Rattle.trip.proofs.Octets.{Octets, octets-at, octets-of, octets-put, octets-append, octets-bytes, Written, written-append, octets-apply, written-scatter}
 
 octets-descriptor : (addr len flags nx : ℕ) → Octets (descriptor addr len flags nx)
@@ -45,3 +54,17 @@ laid-bytes q t kind sector message reads e bufs spots nums mem f g =
     let s : Octets string = octets-put message 0 (header kind sector) (octets-of message f) (octets-header kind sector) in
     let a : Octets m₁ = octets-apply (lay_stores q t string reads e bufs spots nums) mem (octets-stores q t string reads e bufs spots nums s) (octets-of mem g) in
     octets-at (put m₁ (q.avail + 2) (bytes 2 (plus_one t))) (octets-put m₁ (q.avail + 2) (bytes 2 (plus_one t)) a (octets-bytes 2 (plus_one t)))
+
+-- a request that was laid can be published
+pub laid-publishes : (d : Driver) (own : List ℕ) (rs : List Region) (mem : List ℕ) (kind sector : ℕ) (message bufs : List ℕ) (reads : ℕ) (spots nums : List ℕ) (l : Laid)
+    → (lay d own rs mem kind sector message bufs reads spots nums).answer ≡ Ok l → publish_answer l.driver (length mem) ≡ Ok tt
+unfolding lay lay_with publish_answer
+laid-publishes d own rs mem kind sector message bufs reads spots nums l = go (plan d.queue rs (length mem) own kind (length message) bufs reads spots nums).answer refl
+  where
+    go : (r : Result Unit NotLaid) → (plan d.queue rs (length mem) own kind (length message) bufs reads spots nums).answer ≡ r
+        → (lay_with d own mem kind sector message bufs reads (plan d.queue rs (length mem) own kind (length message) bufs reads spots nums) r).answer ≡ Ok l
+        → publish_answer l.driver (length mem) ≡ Ok tt
+    go (Ok u) p e =
+        let g : record { driver = record { queue = d.queue; next = plus_one d.next; seen = d.seen }; head = get_or (plan d.queue rs (length mem) own kind (length message) bufs reads spots nums).nums 0 0 } ≡ l = cc in
+        rw (← g, queue-in (plan-fits d.queue rs (length mem) own kind (length message) bufs reads spots nums p))
+    go (Err x) p e = absurd (cc)

@@ -6,6 +6,7 @@ use mathlib.Core.List.{List}
 use mathlib.Core.Path.{◌≡◌, refl, sym, ap, ◌∙◌}
 use lib.Dec.{eqb, leb}
 use lib.ListN.{length, get_or, drop, length-drop}
+use Rattle.std.specs.Prelude.{Option, Some, Result, Ok}
 use borrow.Author.Tests.{eq-eqb, eqb-true}
 use Rattle.words.specs.Layout.{descs_word}
 use Rattle.model.specs.Bytes.{put, part}
@@ -28,16 +29,13 @@ use Rattle.requests.specs.Guest.{state_after}
 use Rattle.hostiledisk.specs.Calls.{Called, untouched}
 use Rattle.guarantees.specs.History.{left}
 use Rattle.guarantees.specs.Follow.{Matches}
-use Rattle.driver.specs.Lay.{Plan, plan, formed, header, marked, lay, lay_on, lay_stores, Lay, published as publishedBy}
+use Rattle.driver.specs.Lay.{Plan, plan, formed, header, marked, lay, lay_with, lay_stores, Lay, published as publishedBy}
 use Rattle.driver.specs.Take.{used_idx, taken, own_after, released, data_of}
 use Rattle.driver.specs.Fit.{LayFit}
 use Rattle.driver.specs.declared.Driver.{Driver}
 use Rattle.driver.specs.declared.Ask.{Ask}
-use Rattle.driver.specs.declared.Laid.TheVariants.{Head}
-use Rattle.driver.specs.declared.Taken.{Taken}
-use Rattle.driver.specs.declared.Taken.TheVariants.{Answer}
-use Rattle.driver.specs.declared.Byte.{Byte}
-use Rattle.driver.specs.declared.Byte.TheVariants.{Is}
+use Rattle.driver.specs.declared.Answer.{Answer}
+use Rattle.driver.specs.declared.Strange.{Strange}
 use Rattle.driver.proofs.Fits.{plan-fits}
 use Rattle.driver.proofs.Again.{plan-again, plan-long}
 use Rattle.trips.specs.Stands.{Named, Stands, Waits, published}
@@ -48,12 +46,11 @@ use Rattle.trips.proofs.Free.{length_marked, laid-outstanding, named_again}
 use Rattle.trips.proofs.Trip.{takes, trip}
 use Rattle.trips.proofs.Data.{write_read}
 use Rattle.trips.proofs.Few.{stands-few}
-use Rattle.trip.specs.declared.Exchanged.TheVariants.{Done}
+use Rattle.trip.specs.declared.NotDone.{NotDone}
 use Rattle.trip.specs.Until.{until, Served}
 use Rattle.trip.proofs.Laid.{AllBytes, laid-bytes}
 use Rattle.trip.proofs.Until.{until-serves, Stands as DeviceStands, stands as Stands-of}
 use Rattle.trip.specs.declared.Trip.{Trip}
-use Rattle.trip.specs.declared.Trip.TheVariants.{Both}
 use Rattle.trip.specs.Round.{asked, round, written, round_of}
 use Rattle.trip.specs.Honest.{Honest, device_of}
 use Rattle.trip.specs.Exchange.{sent, shown_in, received, with_status, Exchange, reading, lent, after, exchange}
@@ -71,16 +68,18 @@ pub record Ready (c : Cfg) (fuel : ℕ) (d : Driver) (own : List ℕ) (rs : List
   pub backing-bytes : AllBytes o.backing
   pub stage-bytes : AllBytes o.stage
   pub message-bytes : AllBytes message
-  pub accepted : (plan d.queue rs (length o.mem) own ask.kind (length message) bufs ask.reads spots nums).code ≡ 0
+  pub accepted : (plan d.queue rs (length o.mem) own ask.kind (length message) bufs ask.reads spots nums).answer ≡ Ok tt
   pub named : Named d.queue.size own
   pub enough : length bufs + 5 ≤ fuel
 
 -- what an answer that names the request's head is taken for
-received-own : (head : ℕ) (d : Driver) (len s : ℕ) (x : Taken) (b : Byte) → x ≡ Answer d head len → b ≡ Is s → received head x b ≡ Done d s len
+received-own : (head : ℕ) (d : Driver) (len s : ℕ) (x : Result (Option Answer) Strange) (b : Option ℕ)
+    → x ≡ Ok (Some (record { driver = d; head = head; len = len })) → b ≡ Some s → received head x b ≡ Ok (record { driver = d; status = s; len = len })
 unfolding received with_status
 received-own head d len s x b e f = rw (e, f, eq-eqb head head refl)
 
-freed-own : (q : ℕ) (own : List ℕ) (d : Driver) (head len : ℕ) (x : Taken) (own₂ : List ℕ) → x ≡ Answer d head len → released q (1 + head) own ≡ own₂ → own_after q own x ≡ own₂
+freed-own : (q : ℕ) (own : List ℕ) (d : Driver) (head len : ℕ) (x : Result (Option Answer) Strange) (own₂ : List ℕ)
+    → x ≡ Ok (Some (record { driver = d; head = head; len = len })) → released q (1 + head) own ≡ own₂ → own_after q own x ≡ own₂
 unfolding own_after
 freed-own q own d head len x own₂ e f = rw e f
 
@@ -116,13 +115,13 @@ module _ (c : Cfg) (fuel : ℕ) (d : Driver) (own : List ℕ) (rs : List Region)
   laid_mem = published d.queue d.next string ask.reads e bufs plan_here.spots plan_here.nums o.mem
 
   abbrev laid_all : Lay
-  laid_all = record { answer = Head laid_driver head; mem = laid_mem; own = laid_own; message = string; spots = plan_here.spots; nums = plan_here.nums }
+  laid_all = record { answer = Ok (record { driver = laid_driver; head = head }); mem = laid_mem; own = laid_own; message = string; spots = plan_here.spots; nums = plan_here.nums }
 
   sent_is : sent d own rs o.mem ask message bufs spots nums ≡ laid_all
-  unfolding sent lay lay_on shown_in publishedBy
+  unfolding sent lay lay_with shown_in publishedBy
   sent_is =
       rw (
-        eq-eqb plan_here.code 0 k.accepted,
+        k.accepted,
         length-apply (lay_stores d.queue d.next string ask.reads e bufs plan_here.spots plan_here.nums) o.mem,
         queue-in fit,
       )
@@ -185,7 +184,7 @@ module _ (c : Cfg) (fuel : ℕ) (d : Driver) (own : List ℕ) (rs : List Region)
 
   -- What an exchange comes to: the request's answer, and a driver and a device that can go on.
   pub record Went (x : Exchange) : Type 0 where
-    pub answer-is : x.answer ≡ Done (record { queue = d.queue; next = plus_one d.next; seen = plus_one d.seen }) (status job) (reported (status job) (total writes))
+    pub answer-is : x.answer ≡ Ok (record { driver = record { queue = d.queue; next = plus_one d.next; seen = plus_one d.seen }; status = status job; len = reported (status job) (total writes) })
     pub own_is : x.own ≡ own
     pub spots-are : x.spots ≡ plan_here.spots
     pub nums-are : x.nums ≡ plan_here.nums
@@ -204,7 +203,7 @@ module _ (c : Cfg) (fuel : ℕ) (d : Driver) (own : List ℕ) (rs : List Region)
       let b = both_ways in
       let r : Reads laid_driver laid_own head plan_here.spots ask.reads e job given left_over.mem = rw v.mem_is b.0 in
       let t : taken laid_driver laid_own left_over.mem (used_idx laid_driver left_over.mem)
-      ≡ Answer (record { queue = d.queue; next = plus_one d.next; seen = plus_one d.seen }) head (reported (status job) (total writes)) =
+      ≡ Ok (Some (record { driver = record { queue = d.queue; next = plus_one d.next; seen = plus_one d.seen }; head = head; len = reported (status job) (total writes) })) =
       rw r.idx-read r.answer-taken in
       record {
         answer-is = received-own head _ _ (status job) _ _ t r.status-read;
@@ -374,19 +373,19 @@ module _ (n : ℕ) (d : Driver) (own map : List ℕ) (sector : ℕ) (message buf
       (write_read dev o.backing dev-stands.disk-in sector (length message) writes₁ (drop 16 message) sent-long status₁ first.device.backing went₁.backing-is _ _ _
       plan₂.spots reads₂ (length bufs₂ / 2) _ second.device.mem (length header₂) w.reads-are status₂ out (h.out-long ∙ sym sent-long) (omega (arith, long₂)))
 
-  pub round_trip : ((round n d own (regions map) sector message bufs reads₁ header₂ bufs₂ reads₂ out spots nums o).answer ≡ Both 0 0)
+  pub round_trip : ((round n d own (regions map) sector message bufs reads₁ header₂ bufs₂ reads₂ out spots nums o).answer ≡ Ok (record { write = 0; read = 0 }))
       × ((round n d own (regions map) sector message bufs reads₁ header₂ bufs₂ reads₂ out spots nums o).out ≡ drop 16 message)
   unfolding round written round_of
   round_trip = rw (went₁.answer-is, went₂.answer-is, status₁, status₂) (refl, read_back)
 
 -- .. as the contract of `round_trip` has it
-pub and-honest : (state mem backing chain stage : List ℕ) (n : ℕ) (d : Driver) (own map : List ℕ) (sector : ℕ) (message bufs : List ℕ) (reads₁ : ℕ) (header₂ bufs₂ : List ℕ) (reads₂ : ℕ) (out spots nums : List ℕ) (r : Trip) (after₂ : List ℕ)
+pub and-honest : (state mem backing chain stage : List ℕ) (n : ℕ) (d : Driver) (own map : List ℕ) (sector : ℕ) (message bufs : List ℕ) (reads₁ : ℕ) (header₂ bufs₂ : List ℕ) (reads₂ : ℕ) (out spots nums : List ℕ) (r : Result Trip NotDone) (after₂ : List ℕ)
     → (r ≡ (round n d own (regions map) sector message bufs reads₁ header₂ bufs₂ reads₂ out spots nums (untouched 1 state mem backing chain stage)).answer)
     × (after₂ ≡ (round n d own (regions map) sector message bufs reads₁ header₂ bufs₂ reads₂ out spots nums (untouched 1 state mem backing chain stage)).out)
     → sector < 2 ^ 64 → AllBytes mem → AllBytes backing → AllBytes stage → AllBytes message → AllBytes header₂
     → (r ≡ (round n d own (regions map) sector message bufs reads₁ header₂ bufs₂ reads₂ out spots nums (untouched 1 state mem backing chain stage)).answer)
     × ((after₂ ≡ (round n d own (regions map) sector message bufs reads₁ header₂ bufs₂ reads₂ out spots nums (untouched 1 state mem backing chain stage)).out)
-    × (Honest state mem backing chain stage n d own map sector message bufs reads₁ header₂ bufs₂ reads₂ out spots nums → (r ≡ Both 0 0) × (after₂ ≡ drop 16 message)))
+    × (Honest state mem backing chain stage n d own map sector message bufs reads₁ header₂ bufs₂ reads₂ out spots nums → (r ≡ Ok (record { write = 0; read = 0 })) × (after₂ ≡ drop 16 message)))
 and-honest state mem backing chain stage n d own map sector message bufs reads₁ header₂ bufs₂ reads₂ out spots nums r after₂ a sector-in mb bb sb gb hb = (
   a.0,
   (

@@ -1,5 +1,5 @@
 -- What a round trip stands on.
-use Rattle.std.specs.Prelude.{ℕ, ◌+◌, ◌-◌, ◌/◌, ◌≤◌, List, ◌≡◌, length, get_or}
+use Rattle.std.specs.Prelude.{ℕ, ◌+◌, ◌-◌, ◌/◌, ◌≤◌, List, ◌≡◌, length, get_or, Ok}
 use Rattle.model.specs.Memory.{regions}
 use Rattle.model.specs.Step.{Cfg, spans}
 use Rattle.model.specs.declared.Phase.TheVariants.{Poll}
@@ -31,8 +31,8 @@ pub record Honest (state mem backing chain stage : List ℕ) (n : ℕ) (d : Driv
   pub writable : (device_of state).disk.ro ≡ 0
   pub sectors-fit : Fit (length message - 16) sector (device_of state).disk.sectors
   -- the driver has room for each of the two requests
-  pub write-accepted : (plan d.queue (regions map) (length mem) own 1 (length message) bufs reads spots nums).code ≡ 0
-  pub read-accepted : (plan d.queue (regions map) (length mem) own 0 (length header) bufs₂ reads₂ spots nums).code ≡ 0
+  pub write-accepted : (plan d.queue (regions map) (length mem) own 1 (length message) bufs reads spots nums).answer ≡ Ok tt
+  pub read-accepted : (plan d.queue (regions map) (length mem) own 0 (length header) bufs₂ reads₂ spots nums).answer ≡ Ok tt
   -- as much is read as was written: `out` is as long as the data, and the read's writable buffers are a byte longer, for the status
   pub out-long : length out ≡ length message - 16
   pub read-long : total (spans (length bufs₂ / 2 - reads₂) reads₂ bufs₂) ≡ length out + 1

@@ -1,12 +1,11 @@
 // A write, read back.
-ghost use Rattle.std.specs.Prelude.{◌≡◌, drop};
+ghost use Rattle.std.specs.Prelude.{◌≡◌, drop, Ok};
 ghost use Rattle.model.specs.Memory.{regions};
 ghost use Rattle.hostiledisk.specs.Calls.{untouched};
-ghost use Rattle.trip.specs.declared.Trip.TheVariants.{Both};
 ghost use Rattle.trip.specs.Honest.{Honest};
 ghost use Rattle.trip.specs.Round.{round};
 
-use crate::{Exchanged, Trip, exchange};
+use crate::{NotDone, Trip, exchange};
 use driver::{Ask, Driver, reading};
 
 // Writes the message's data (its bytes after the first 16) to the disk from the sector on, and reads as many bytes as `out` holds from there. The
@@ -32,40 +31,43 @@ pub fn round_trip(
     out: &mut [u8],
     spots: &mut [usize],
     nums: &mut [usize],
-) -> Trip
+) -> Result<Trip, NotDone>
     ensures value { result ≡ (round n d own.old (regions map.now) sector message.old bufs.now reads header.old bufs2.now reads2 out.old spots.old nums.old (untouched 1 state.old mem.old backing.old chain.old stage.old)).answer }
     ensures out_after { out.new ≡ (round n d own.old (regions map.now) sector message.old bufs.now reads header.old bufs2.now reads2 out.old spots.old nums.old (untouched 1 state.old mem.old backing.old chain.old stage.old)).out }
-    ensures read_back { Honest state.old mem.old backing.old chain.old stage.old n d own.old map.now sector message.old bufs.now reads header.old bufs2.now reads2 out.old spots.old nums.old → (result ≡ Both 0 0) × (out.new ≡ drop 16 message.old) }
+    ensures read_back { Honest state.old mem.old backing.old chain.old stage.old n d own.old map.now sector message.old bufs.now reads header.old bufs2.now reads2 out.old spots.old nums.old → (result ≡ Ok (record { write = 0; read = 0 })) × (out.new ≡ drop 16 message.old) }
 {
     let write = Ask {
         kind: 1,
-        sector: sector,
-        reads: reads,
+        sector,
+        reads,
     };
     let first = exchange::exchange(
         state, mem, backing, chain, stage, n, d, own, map, write, message, bufs, spots, nums,
-    );
-    match first {
-        Exchanged::Refused(k) => Trip::Failed(k),
-        Exchanged::Stuck(k) => Trip::Failed(k),
-        Exchanged::Done(d2, s, _) => {
-            let again = Ask {
-                kind: 0,
-                sector: sector,
-                reads: reads2,
-            };
-            let second = exchange::exchange(
-                state, mem, backing, chain, stage, n, d2, own, map, again, header, bufs2, spots,
-                nums,
-            );
-            match second {
-                Exchanged::Refused(k) => Trip::Failed(k),
-                Exchanged::Stuck(k) => Trip::Failed(k),
-                Exchanged::Done(_, t, _) => {
-                    reading::read(mem, spots, reads2, bufs2.len() / 2, out);
-                    Trip::Both(s, t)
-                }
-            }
-        }
-    }
+    )?;
+    let again = Ask {
+        kind: 0,
+        sector,
+        reads: reads2,
+    };
+    let second = exchange::exchange(
+        state,
+        mem,
+        backing,
+        chain,
+        stage,
+        n,
+        first.driver,
+        own,
+        map,
+        again,
+        header,
+        bufs2,
+        spots,
+        nums,
+    )?;
+    reading::read(mem, spots, reads2, bufs2.len() / 2, out);
+    Ok(Trip {
+        write: first.status,
+        read: second.status,
+    })
 }

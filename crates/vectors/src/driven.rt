@@ -3,7 +3,7 @@
 use crate::guest::Bytes;
 use crate::host::Stage;
 use crate::{areas, guest, host, say};
-use driver::{Ask, Attached, Byte, Driver, Laid, Taken};
+use driver::{Ask, Attached, Driver};
 use std::io;
 
 const MAP: [usize; 3] = [0x8000_0000, 65536, 0];
@@ -15,10 +15,10 @@ fn attach() -> Attached {
 
 fn status(rt: &impl Print, mem: &Bytes, spots: &[usize], reads: usize, e: usize) -> io::Result<()> {
     match driver::reading::status(mem, spots, reads, e) {
-        Byte::Unread => say::text(rt, b" no status"),
-        Byte::Is(n) => {
+        None => say::text(rt, b" no status"),
+        Some(n) => {
             say::text(rt, b", status ")?;
-            say::number(rt, n)
+            say::number(rt, usize::from(n))
         }
     }
 }
@@ -27,16 +27,16 @@ fn status(rt: &impl Print, mem: &Bytes, spots: &[usize], reads: usize, e: usize)
 fn answer(rt: &impl Print, d: Driver, own: &mut [usize], mem: &Bytes) -> io::Result<()> {
     let idx = driver::reading::used_idx(d, mem);
     match driver::reading::take(d, own, mem, idx) {
-        Taken::None => say::text(rt, b", no answer"),
-        Taken::Strange(n) => {
+        Ok(None) => say::text(rt, b", no answer"),
+        Err(e) => {
             say::text(rt, b", strange: ")?;
-            say::number(rt, n)
+            say::number(rt, e.number())
         }
-        Taken::Answer(_, head, len) => {
+        Ok(Some(a)) => {
             say::text(rt, b", head ")?;
-            say::number(rt, head)?;
+            say::number(rt, a.head)?;
             say::text(rt, b", len ")?;
-            say::number(rt, len)
+            say::number(rt, a.len)
         }
     }
 }
@@ -63,7 +63,8 @@ fn served(
     backing: &mut Bytes,
     stage: &mut Stage,
 ) -> io::Result<()> {
-    driver::laying::publish(d, mem);
+    // What was laid can be published.
+    let _ = driver::laying::publish(d, mem);
     let mut state = [0; hostiledisk::STATE_WORDS];
     host::set_up(&mut state, read_only, 0);
     host::run(rt, &mut state, mem, backing, stage, false)?;
@@ -93,12 +94,12 @@ fn request(
         d, &mut own, &MAP, mem, ask, message, bufs, &mut spots, &mut nums,
     );
     match laid {
-        Laid::Refused(n) => {
+        Err(e) => {
             say::text(rt, b"not laid, ")?;
-            say::number(rt, n)?;
+            say::number(rt, e.number())?;
         }
-        Laid::Head(d2, _) => {
-            served(rt, d2, &mut own, mem, read_only, backing, stage)?;
+        Ok(l) => {
+            served(rt, l.driver, &mut own, mem, read_only, backing, stage)?;
             let e = bufs.len() / 2;
             status(rt, mem, &spots, reads, e)?;
             data(rt, mem, &spots, reads, e)?;

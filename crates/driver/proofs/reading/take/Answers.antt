@@ -1,36 +1,24 @@
-use mathlib.Core.Path.{refl, sym, ◌∙◌}
+use mathlib.Core.Path.{refl, sym}
+use Rattle.std.proofs.lemmas.Result.{err_from_is_err_and}
 use Rattle.driver.specs.Take.{taken, own_after}
 use native.Mathlib.Omega.{arith}
 use Rattle.driver.proofs.Answers.{judged-answer}
 use Rattle.driver.proofs.reading.take.Goals as goal
 
--- src/reading.rt:128:41
-pub overflow_add-head : goal.overflow_add-head
-overflow_add-head c = omega (arith, judged-answer _ _ _ _ _ _ _ _ _ (sym c.judge-t.ensures ∙ c.in-Answer.is))
+pub returns-in_err-a : goal.returns-in_err-a
+unfolding taken own_after
+returns-in_err-a c = let r = err_from_is_err_and c.from_residual.result c.from_residual.ensures.1 in rw (r.1, r.2) (record { value = rw (← c.used_word-id.ensures, ← c.used_word-len.ensures) c.in_err-a.ensures; own_after = refl })
 
--- src/reading.rt:128:13
+pub returns-in_default : goal.returns-in_default
+unfolding taken own_after
+returns-in_default c = let e = rw c.in_default.is at c.in_ok-a.ensures in record { value = rw (← c.used_word-id.ensures, ← c.used_word-len.ensures) e; own_after = refl }
+
+pub overflow_add-a : goal.overflow_add-a
+overflow_add-a c = omega (arith, judged-answer _ _ _ _ _ _ _ (sym (rw c.in-Some.is at c.in_ok-a.ensures)))
+
 pub release-requires : goal.release-requires
-release-requires c = let k = judged-answer _ _ _ _ _ _ _ _ _ (sym c.judge-t.ensures ∙ c.in-Answer.is) in omega (arith, k.queue-is, k.own-long)
+release-requires c = omega (arith, judged-answer _ _ _ _ _ _ _ (sym (rw c.in-Some.is at c.in_ok-a.ensures)))
 
--- src/reading.rt:117:1
-pub returns-in-None-clause-value : goal.returns-in-None-clause-value
+pub returns : goal.returns
 unfolding taken own_after
-returns-in-None-clause-value c = rw (← c.used_word-id.ensures, ← c.used_word-len.ensures, ← c.judge-t.ensures, c.in-None.is)
-
-pub returns-in-None-clause-own_after : goal.returns-in-None-clause-own_after
-unfolding taken own_after
-returns-in-None-clause-own_after c = refl
-
--- src/reading.rt:117:1
-pub returns-in-Strange-clause-value : goal.returns-in-Strange-clause-value
-unfolding taken own_after
-returns-in-Strange-clause-value c = rw (← c.used_word-id.ensures, ← c.used_word-len.ensures, ← c.judge-t.ensures, c.in-Strange.is)
-
-pub returns-in-Strange-clause-own_after : goal.returns-in-Strange-clause-own_after
-unfolding taken own_after
-returns-in-Strange-clause-own_after c = refl
-
--- src/reading.rt:117:1
-pub returns-in-Answer : goal.returns-in-Answer
-unfolding taken own_after
-returns-in-Answer c = let e = sym c.judge-t.ensures ∙ c.in-Answer.is in let k = judged-answer _ _ _ _ _ _ _ _ _ e in record { value = rw (← c.used_word-id.ensures, ← c.used_word-len.ensures, e); own_after = rw (← k.queue-is) c.release.ensures }
+returns c = let e = rw c.in-Some.is at c.in_ok-a.ensures in record { value = rw (← c.used_word-id.ensures, ← c.used_word-len.ensures) e; own_after = c.release.ensures }

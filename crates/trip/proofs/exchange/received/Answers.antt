@@ -1,23 +1,24 @@
-use Rattle.trip.specs.Exchange.{received}
+use Rattle.std.proofs.lemmas.Result.{err_from_is_err_and}
+use Rattle.trip.specs.Exchange.{received, with_status}
 use borrow.Author.Tests.{eq-eqb, ne_eqb}
 use Rattle.trip.proofs.exchange.received.Goals as goal
 
--- src/exchange.rt:57:17
-pub returns-then-id-head : goal.returns-then-id-head
+pub returns-in_err-a : goal.returns-in_err-a
 unfolding received
-returns-then-id-head c = rw (c.in-Answer.is, eq-eqb _ _ c.if-id-head.true) c.with_status.ensures
+returns-in_err-a c = let r = err_from_is_err_and c.from_residual.result c.from_residual.ensures.1 in rw (r.1, r.2, c.in_err-a.was)
 
--- src/exchange.rt:49:1
-pub returns-in-None : goal.returns-in-None
+pub returns-in_default : goal.returns-in_default
 unfolding received
-returns-in-None c = rw c.in-None.is
+returns-in_default c = rw (c.in_ok-a.was, c.in_default.is)
 
--- src/exchange.rt:49:1
-pub returns-in-Strange : goal.returns-in-Strange
+pub returns-then-a-head : goal.returns-then-a-head
 unfolding received
-returns-in-Strange c = rw c.in-Strange.is
+returns-then-a-head c = rw (c.in_ok-a.was, c.in-Some.is, ne_eqb _ _ c.if-a-head.true)
 
--- src/exchange.rt:49:1
-pub returns-else-id-head : goal.returns-else-id-head
-unfolding received
-returns-else-id-head c = rw (c.in-Answer.is, ne_eqb _ _ c.if-id-head.false)
+pub returns-in_default-status : goal.returns-in_default-status
+unfolding received with_status
+returns-in_default-status c = rw (c.in_ok-a.was, c.in-Some.is, eq-eqb _ _ c.if-a-head.false, c.in_default-status.is)
+
+pub returns : goal.returns
+unfolding received with_status
+returns c = rw (c.in_ok-a.was, c.in-Some.is, eq-eqb _ _ c.if-a-head.false, c.in-Some-status.is)
