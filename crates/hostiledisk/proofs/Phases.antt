@@ -140,14 +140,9 @@ above n t h e = omega arith
 none : (t : ℕ) → 1 ≤ t → (t ≡ 1 → ⊥) → (t ≡ 2 → ⊥) → (t ≡ 3 → ⊥) → (t ≡ 4 → ⊥) → (t ≡ 5 → ⊥) → (t ≡ 6 → ⊥) → (t ≡ 7 → ⊥) → 8 ≤ t
 none t h a b c d e f g = above 7 t (above 6 t (above 5 t (above 4 t (above 3 t (above 2 t (above 1 t h a) b) c) d) e) f) g
 
-pub tag-low : (tag job : ℕ) → tag < 8 → (tag ≡ 1 → ⊥) → (tag ≡ 2 → ⊥) → (tag ≡ 3 → ⊥) → (tag ≡ 4 → ⊥) → (tag ≡ 5 → ⊥) → (tag ≡ 6 → ⊥) → (tag ≡ 7 → ⊥)
-    → tags_ok tag job ≡ false
+pub tag-none : (job : ℕ) → tags_ok 0 job ≡ false
 unfolding tags_ok
-tag-low tag job h a b c d e f g = go (leb 1 tag) refl
-  where
-    go : (v : Bool) → leb 1 tag ≡ v → both v (both (leb tag 8) (pick (eqb tag 6) (leb job 5) true)) ≡ false
-    go true t = let z : 8 ≤ tag = none tag (leb-true 1 tag t) a b c d e f g in absurd (omega arith)
-    go false t = refl
+tag-none job = refl
 
 -- .. or not that of a broken queue
 not-broken-by : (a b c d e f g : Bool) (x : Row) → (a ≡ false → b ≡ false → c ≡ false → d ≡ false → e ≡ false → f ≡ false → g ≡ false → ⊥)

@@ -1,13 +1,14 @@
 // A step of each phase, on words that are an enabled queue's but for the phase. Each function loads the words of its own
 // phase alone, tests them, does the step's work and saves what it changes; words that steps don't make are refused with 4.
 // All are lent every slice, though most use few: so each has the contract of `hd_step`, which says of each slice what becomes of it.
+// The slices stay parameters: each function's `&` or `&mut` shows which of them its phase may write, and one struct would lend all to write.
 ghost use Rattle.std.specs.Prelude.{◌≡◌, ◌≤◌, length};
 ghost use Rattle.model.specs.Step.{code_after};
 ghost use Rattle.words.specs.Layout.{state_words, kept};
 ghost use Rattle.hostiledisk.specs.Calls.{hd_step, Framed, StepIs};
 
 use model::Phase;
-use words::at;
+use words::{State, at};
 
 // A step that publishes nothing: the counters stay, and the answer goes by the phase.
 fn finish(state: &mut [usize], p: Phase) -> usize
@@ -24,8 +25,8 @@ pub fn poll(state: &mut [usize], mem: &[u8], backing: &[u8], chain: &[usize], st
     requires { Framed state.old 1 (length mem.now) (length backing.now) (length chain.now) (length stage.now) }
     ensures { StepIs (hd_step state.old mem.now backing.now chain.now stage.now) result state.new mem.now backing.now chain.now stage.now }
 {
-    let q = words::queue_at(state);
-    let p = device::poll(q, state[at::TAKEN], mem);
+    let view = State { words: state };
+    let p = device::poll(view.queue(), view.words[at::TAKEN], mem);
     finish(state, p)
 }
 
@@ -40,8 +41,8 @@ pub fn entry(
     requires { Framed state.old 2 (length mem.now) (length backing.now) (length chain.now) (length stage.now) }
     ensures { StepIs (hd_step state.old mem.now backing.now chain.now stage.now) result state.new mem.now backing.now chain.now stage.now }
 {
-    let q = words::queue_at(state);
-    let p = device::entry(q, state[at::TAKEN], mem);
+    let view = State { words: state };
+    let p = device::entry(view.queue(), view.words[at::TAKEN], mem);
     if let Phase::Chain(k, head) = p {
         words::save_chain(state, k, head);
         return 1;
@@ -60,31 +61,31 @@ pub fn descriptor(
     requires { Framed state.old 3 (length mem.now) (length backing.now) (length chain.old) (length stage.now) }
     ensures { StepIs (hd_step state.old mem.now backing.now chain.old stage.now) result state.new mem.now backing.now chain.new stage.now }
 {
-    let k = words::walk_at(state);
-    let cur = state[at::A];
-    if sane::chain_sane(state[at::SIZE], k, cur) {
-        let q = words::queue_at(state);
-        let n = state[at::REGIONS];
-        let end = at::MAP + 3 * n;
-        let x = device::descriptor(
-            q,
-            &state[at::MAP..end],
-            state[at::MEM_LEN],
-            k,
-            cur,
-            state[at::DESCS],
-            mem,
-            chain,
-        );
-        let p = x.phase;
-        if let Phase::Chain(more, next) = p {
-            words::save_chain(state, more, next);
-            return 1;
-        }
-        state[at::DESCS] = x.descs;
-        return finish(state, p);
+    let view = State { words: state };
+    let k = view.walk();
+    let cur = view.words[at::A];
+    if !sane::chain_sane(view.words[at::SIZE], k, cur) {
+        return 4;
     }
-    4
+    let n = view.words[at::REGIONS];
+    let end = at::MAP + 3 * n;
+    let x = device::descriptor(
+        view.queue(),
+        &view.words[at::MAP..end],
+        view.words[at::MEM_LEN],
+        k,
+        cur,
+        view.words[at::DESCS],
+        mem,
+        chain,
+    );
+    let p = x.phase;
+    if let Phase::Chain(more, next) = p {
+        words::save_chain(state, more, next);
+        return 1;
+    }
+    state[at::DESCS] = x.descs;
+    finish(state, p)
 }
 
 // S4
@@ -98,18 +99,18 @@ pub fn header(
     requires { Framed state.old 4 (length mem.now) (length backing.now) (length chain.now) (length stage.old) }
     ensures { StepIs (hd_step state.old mem.now backing.now chain.now stage.old) result state.new mem.now backing.now chain.now stage.new }
 {
-    let k = words::walk_at(state);
-    let at = words::place_at(state);
-    let got = state[at::D];
-    if sane::header_sane(state[at::SIZE], k, at, got) {
-        if sane::place_ok(state[at::MEM_LEN], chain, at) {
-            let d = words::disk_at(state);
-            let p = device::gather::header(d, k, at, got, chain, mem, stage);
-            return finish(state, p);
-        }
+    let view = State { words: state };
+    let k = view.walk();
+    let at = view.place();
+    let got = view.words[at::D];
+    if !sane::header_sane(view.words[at::SIZE], k, at, got) {
         return 4;
     }
-    4
+    if !sane::place_ok(view.words[at::MEM_LEN], chain, at) {
+        return 4;
+    }
+    let p = device::gather::header(view.disk(), k, at, got, chain, mem, stage);
+    finish(state, p)
 }
 
 // S5
@@ -123,23 +124,30 @@ pub fn payload(
     requires { Framed state.old 5 (length mem.now) (length backing.old) (length chain.now) (length stage.old) }
     ensures { StepIs (hd_step state.old mem.now backing.old chain.now stage.old) result state.new mem.now backing.new chain.now stage.new }
 {
-    let k = words::walk_at(state);
-    let at = words::place_at(state);
-    let sector = state[at::C];
-    let got = state[at::D];
-    if sane::payload_sane(state[at::SIZE], state[at::SECTORS], k, at, sector, got) {
-        if sane::payload_ready(state[at::MEM_LEN], chain, k, at, got) {
-            let d = words::disk_at(state);
-            let p = device::gather::payload(d, k, at, sector, got, chain, mem, stage, backing);
-            if let Phase::Payload(same, next, to, more) = p {
-                words::save_payload(state, same, next, to, more);
-                return 1;
-            }
-            return finish(state, p);
-        }
+    let view = State { words: state };
+    let k = view.walk();
+    let at = view.place();
+    let sector = view.words[at::C];
+    let got = view.words[at::D];
+    if !sane::payload_sane(
+        view.words[at::SIZE],
+        view.words[at::SECTORS],
+        k,
+        at,
+        sector,
+        got,
+    ) {
         return 4;
     }
-    4
+    if !sane::payload_ready(view.words[at::MEM_LEN], chain, k, at, got) {
+        return 4;
+    }
+    let p = device::gather::payload(view.disk(), k, at, sector, got, chain, mem, stage, backing);
+    if let Phase::Payload(same, next, to, more) = p {
+        words::save_payload(state, same, next, to, more);
+        return 1;
+    }
+    finish(state, p)
 }
 
 // S6
@@ -153,35 +161,34 @@ pub fn answer(
     requires { Framed state.old 6 (length mem.old) (length backing.now) (length chain.now) (length stage.now) }
     ensures { StepIs (hd_step state.old mem.old backing.now chain.now stage.now) result state.new mem.new backing.now chain.now stage.now }
 {
-    if 5 < state[at::A] {
+    let view = State { words: state };
+    if 5 < view.words[at::A] {
         return 4;
     }
-    let k = words::walk_at(state);
-    let job = words::job_of(state[at::A], state[at::C]);
-    let got = state[at::D];
-    if sane::answer_sane(state[at::SIZE], state[at::SECTORS], k, job, got) {
-        if sane::answer_ready(state[at::MEM_LEN], chain, k) {
-            let q = words::queue_at(state);
-            let d = words::disk_at(state);
-            answer::reply(
-                q,
-                d,
-                state[at::ID0],
-                state[at::ID1],
-                state[at::ID2],
-                state[at::ANSWERED],
-                k,
-                job,
-                chain,
-                backing,
-                mem,
-            );
-            words::save_phase(state, Phase::Publish(k, got));
-            return 1;
-        }
+    let k = view.walk();
+    let job = words::job_of(view.words[at::A], view.words[at::C]);
+    let got = view.words[at::D];
+    if !sane::answer_sane(view.words[at::SIZE], view.words[at::SECTORS], k, job, got) {
         return 4;
     }
-    4
+    if !sane::answer_ready(view.words[at::MEM_LEN], chain, k) {
+        return 4;
+    }
+    answer::reply(
+        view.queue(),
+        view.disk(),
+        view.words[at::ID0],
+        view.words[at::ID1],
+        view.words[at::ID2],
+        view.words[at::ANSWERED],
+        k,
+        job,
+        chain,
+        backing,
+        mem,
+    );
+    words::save_phase(state, Phase::Publish(k, got));
+    1
 }
 
 // S7
@@ -195,22 +202,22 @@ pub fn publish(
     requires { Framed state.old 7 (length mem.old) (length backing.now) (length chain.now) (length stage.now) }
     ensures { StepIs (hd_step state.old mem.old backing.now chain.now stage.now) result state.new mem.new backing.now chain.now stage.now }
 {
-    let k = words::walk_at(state);
-    let got = state[at::D];
-    if sane::publish_sane(state[at::SIZE], k, got) {
-        let q = words::queue_at(state);
-        let taken = state[at::TAKEN];
-        let answered = state[at::ANSWERED];
-        let descs = state[at::DESCS];
-        device::publish(q, answered, mem);
-        words::save(
-            state,
-            ring::one_more(taken),
-            ring::one_more(answered),
-            descs,
-            Phase::Poll,
-        );
-        return 2;
+    let view = State { words: state };
+    let k = view.walk();
+    let got = view.words[at::D];
+    if !sane::publish_sane(view.words[at::SIZE], k, got) {
+        return 4;
     }
-    4
+    let taken = view.words[at::TAKEN];
+    let answered = view.words[at::ANSWERED];
+    let descs = view.words[at::DESCS];
+    device::publish(view.queue(), answered, mem);
+    words::save(
+        state,
+        ring::one_more(taken),
+        ring::one_more(answered),
+        descs,
+        Phase::Poll,
+    );
+    2
 }

@@ -6,7 +6,7 @@ ghost use Rattle.std.specs.Prelude.{◌≡◌, true, ◌≤◌, length};
 ghost use Rattle.hostiledisk.specs.Calls.{chain_words, hd_memory, hd_disk, hd_enable_at, hd_reset, hd_status, hd_step, StepIs};
 ghost use Rattle.words.specs.Layout.{state_words};
 
-use words::at;
+use words::{State, at};
 
 pub mod arms;
 pub mod set_up;
@@ -15,7 +15,7 @@ pub mod stepping;
 
 // What hd_status shows of a phase: the reason, the step that comes next, head, descriptors and bytes fetched,
 // and the descriptor at which the chain was refused.
-#[derive(Clone, Copy)]
+#[derive(Clone, Copy, Default)]
 pub struct Seen {
     pub reason: usize,
     pub step: usize,
@@ -36,6 +36,7 @@ pub fn hd_state_words() -> usize
 }
 
 // Words of chain memory for a queue of this size: two for each descriptor.
+#[tactic(auto, using(model::proofs::Tests::tests, words::proofs::Laws::sizes), unfolding(crate::specs::Calls::chain_words))]
 pub fn hd_chain_words(queue_size: usize) -> usize
     ensures { result ≡ chain_words queue_size }
 {
@@ -52,6 +53,7 @@ pub fn hd_stage_bytes() -> usize
     1048576
 }
 
+#[tactic(auto, using(model::proofs::Tests::tests), unfolding(crate::specs::Calls::hd_memory))]
 pub fn hd_memory(state: &mut [usize], map: &[usize], mem_len: usize) -> usize
     ensures value { result ≡ (hd_memory state.old map.now mem_len).code }
     ensures state_after { state.new ≡ (hd_memory state.old map.now mem_len).state }
@@ -67,6 +69,7 @@ pub fn hd_memory(state: &mut [usize], map: &[usize], mem_len: usize) -> usize
     0
 }
 
+#[tactic(auto, using(model::proofs::Tests::tests), unfolding(crate::specs::Calls::hd_disk))]
 pub fn hd_disk(
     state: &mut [usize],
     start: usize,
@@ -81,7 +84,7 @@ pub fn hd_disk(
     if state.len() < STATE_WORDS {
         return 40;
     }
-    let level = words::level(state);
+    let level = State { words: state }.level();
     if level < 1 {
         return 41;
     }
@@ -99,6 +102,7 @@ pub fn hd_disk(
     0
 }
 
+#[tactic(auto, using(model::proofs::Tests::tests), unfolding(crate::specs::Calls::hd_enable_at))]
 pub fn hd_enable_at(
     state: &mut [usize],
     size: usize,
@@ -115,10 +119,11 @@ pub fn hd_enable_at(
     if state.len() < STATE_WORDS {
         return 40;
     }
-    if words::level(state) != 2 {
+    let view = State { words: state };
+    if view.level() != 2 {
         return 41;
     }
-    let found = set_up::areas(state, size, desc, avail, used);
+    let found = set_up::areas(view, size, desc, avail, used);
     set_up::enable(state, chain_len, stage_len, start, found)
 }
 
@@ -137,6 +142,7 @@ pub fn hd_enable(
     hd_enable_at(state, size, desc, avail, used, chain_len, stage_len, 0)
 }
 
+#[tactic(auto, using(model::proofs::Tests::tests), unfolding(crate::specs::Calls::hd_reset))]
 pub fn hd_reset(state: &mut [usize]) -> usize
     ensures value { result ≡ (hd_reset state.old).code }
     ensures state_after { state.new ≡ (hd_reset state.old).state }
@@ -144,13 +150,13 @@ pub fn hd_reset(state: &mut [usize]) -> usize
     if state.len() < STATE_WORDS {
         return 40;
     }
-    if words::level(state) == 3 {
+    if (State { words: state }).level() == 3 {
         state[at::LEVEL] = 2;
-        return 0;
     }
     0
 }
 
+#[tactic(auto, using(model::proofs::Tests::tests), unfolding(crate::specs::Calls::hd_status))]
 pub fn hd_status(state: &[usize], out: &mut [usize]) -> usize
     ensures value { result ≡ (hd_status state.now out.old).code }
     ensures out_after { out.new ≡ (hd_status state.now out.old).state }
@@ -161,7 +167,7 @@ pub fn hd_status(state: &[usize], out: &mut [usize]) -> usize
     if out.len() < 8 {
         return 45;
     }
-    status::write(state, out);
+    status::write(State { words: state }, out);
     0
 }
 
@@ -178,15 +184,16 @@ pub fn hd_step(
     if state.len() < STATE_WORDS {
         return 4;
     }
-    if words::framed(state) {
-        let tag = state[at::TAG];
-        if 8 <= tag {
-            return stepping::broken(state);
-        }
-        if stepping::long_enough(state, mem.len(), backing.len(), chain.len(), stage.len()) {
-            return stepping::go(state, tag, mem, backing, chain, stage);
-        }
+    let view = State { words: state };
+    if !view.framed() {
         return 4;
     }
-    4
+    let tag = view.words[at::TAG];
+    if 8 <= tag {
+        return stepping::broken(view);
+    }
+    if !stepping::long_enough(view, mem.len(), backing.len(), chain.len(), stage.len()) {
+        return 4;
+    }
+    stepping::go(state, tag, mem, backing, chain, stage)
 }

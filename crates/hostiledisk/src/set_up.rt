@@ -7,7 +7,7 @@ ghost use Rattle.words.specs.Layout.{state_words, memory_ok, map_words};
 ghost use Rattle.hostiledisk.specs.Calls.{flag, memory_set, disk_set, queue_set, enabled_with};
 
 use model::{Areas, Phase, Queue};
-use words::at;
+use words::{State, at};
 
 pub fn note_memory(state: &mut [usize], map: &[usize], m: usize)
     requires state_words_in_bounds { state_words ≤ length state.old }
@@ -20,6 +20,7 @@ pub fn note_memory(state: &mut [usize], map: &[usize], m: usize)
     regions::keep(state, at::MAP, map);
 }
 
+#[tactic(auto, using(model::proofs::Tests::tests))]
 fn flag(n: usize) -> usize
     ensures { result ≡ flag n }
 {
@@ -52,16 +53,15 @@ pub fn note_disk(
 }
 
 // Where the areas of a queue would lie in the registered memory.
-pub fn areas(state: &[usize], size: usize, desc: usize, avail: usize, used: usize) -> Areas
-    requires state_words_in_bounds { state_words ≤ length state.now }
-    requires state_value { memory_ok state.now ≡ true }
-    ensures { result ≡ areas (regions (map_words state.now)) size desc avail used }
+pub fn areas(state: State, size: usize, desc: usize, avail: usize, used: usize) -> Areas
+    requires { memory_ok state.words.now ≡ true }
+    ensures { result ≡ areas (regions (map_words state.entry.words.now)) size desc avail used }
 {
-    let n = state[at::REGIONS];
+    let n = state.words[at::REGIONS];
     let end = at::MAP + 3 * n;
     ring::areas(
-        &state[at::MAP..end],
-        state[at::MEM_LEN],
+        &state.words[at::MAP..end],
+        state.words[at::MEM_LEN],
         size,
         desc,
         avail,
@@ -83,6 +83,7 @@ fn note_queue(state: &mut [usize], q: Queue, chain: usize, stage: usize, start: 
     words::save(state, start, start, 0, Phase::Poll);
 }
 
+#[tactic(auto, using(model::proofs::Tests::tests), unfolding(crate::specs::Calls::enabled_with))]
 pub fn enable(state: &mut [usize], chain: usize, stage: usize, start: usize, found: Areas) -> usize
     requires { state_words ≤ length state.old }
     ensures value { result ≡ (enabled_with state.old chain stage start found).code }

@@ -2,46 +2,62 @@
 ghost use Rattle.std.specs.Prelude.{◌≡◌, true, [], ◌++◌, ◌≤◌, leb, length};
 ghost use Rattle.model.specs.Pick.{pick};
 ghost use Rattle.model.specs.Bytes.{put};
+ghost use Rattle.model.specs.Ring.{elsewhere};
 ghost use Rattle.model.specs.Sane.{sane};
 ghost use Rattle.hostiledisk.specs.Calls.{seen, seen_of, shown, shown_more, status_words};
-ghost use Rattle.words.specs.Layout.{state_words};
 
 use crate::Seen;
 use model::{Phase, Walk};
-use words::at;
+use words::{State, at};
 
-fn seen(reason: usize, step: usize, head: usize, count: usize, bytes: usize, at: usize) -> Seen
-    ensures { result ≡ seen reason step head count bytes at }
+// A queue in order, or one that broke elsewhere than at a chain's descriptor.
+const NOT_REFUSED: Seen = Seen {
+    reason: 0,
+    step: 0,
+    head: 0,
+    count: 0,
+    bytes: 0,
+    at: 65536,
+};
+
+fn at_hand(step: usize, k: Walk, bytes: usize) -> Seen
+    ensures { result ≡ seen 0 step k.head k.count bytes elsewhere }
 {
     Seen {
-        reason,
         step,
-        head,
-        count,
+        head: k.head,
+        count: k.count,
         bytes,
-        at,
+        ..NOT_REFUSED
     }
 }
 
-fn at_hand(step: usize, k: Walk, bytes: usize) -> Seen
-    ensures { result ≡ seen 0 step k.head k.count bytes 65536 }
-{
-    seen(0, step, k.head, k.count, bytes, 65536)
-}
-
+#[tactic(auto, unfolding(crate::specs::Calls::seen_of))]
 fn seen_of(q: usize, sectors: usize, p: Phase) -> Seen
     requires { sane q sectors p ≡ true }
     ensures { result ≡ seen_of p }
 {
     match p {
-        Phase::Poll => seen(0, 1, 0, 0, 0, 65536),
-        Phase::Entry => seen(0, 2, 0, 0, 0, 65536),
+        Phase::Poll => Seen {
+            step: 1,
+            ..NOT_REFUSED
+        },
+        Phase::Entry => Seen {
+            step: 2,
+            ..NOT_REFUSED
+        },
         Phase::Chain(k, _) => at_hand(3, k, 0),
         Phase::Header(k, _, got) => at_hand(4, k, got),
         Phase::Payload(k, _, _, got) => at_hand(5, k, 16 + got),
         Phase::Answer(k, _, got) => at_hand(6, k, got),
         Phase::Publish(k, got) => at_hand(7, k, got),
-        Phase::Broken(reason, head, count, at) => seen(reason, 0, head, count, 0, at),
+        Phase::Broken(reason, head, count, at) => Seen {
+            reason,
+            head,
+            count,
+            at,
+            ..Seen::default()
+        },
     }
 }
 
@@ -71,23 +87,23 @@ fn show_all(out: &mut [usize], enabled: usize, taken: usize, answered: usize, de
     }
 }
 
-pub fn write(state: &[usize], out: &mut [usize])
-    requires state_words_in_bounds { state_words ≤ length state.now }
-    requires in_bounds { 8 ≤ length out.old }
-    ensures { out.new ≡ put out.old 0 (status_words (leb 10 (length out.old)) state.now) }
+#[tactic(auto, using(model::proofs::Tests::tests), unfolding(crate::specs::Calls::status_words))]
+pub fn write(state: State, out: &mut [usize])
+    requires { 8 ≤ length out.old }
+    ensures { out.new ≡ put out.old 0 (status_words (leb 10 (length out.old)) state.entry.words.now) }
 {
-    if words::level(state) == 3 {
-        let p = words::phase_of(words::row_at(state));
-        let x = seen_of(state[at::SIZE], state[at::SECTORS], p);
+    if state.level() == 3 {
+        let p = Phase::from(state.row());
+        let x = seen_of(state.words[at::SIZE], state.words[at::SECTORS], p);
         show_all(
             out,
             1,
-            state[at::TAKEN],
-            state[at::ANSWERED],
-            state[at::DESCS],
+            state.words[at::TAKEN],
+            state.words[at::ANSWERED],
+            state.words[at::DESCS],
             x,
         );
         return;
     }
-    show_all(out, 0, 0, 0, 0, seen(0, 0, 0, 0, 0, 0));
+    show_all(out, 0, 0, 0, 0, Seen::default());
 }

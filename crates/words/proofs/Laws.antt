@@ -13,6 +13,9 @@ use Rattle.model.proofs.Tests.{told, both-split}
 use Rattle.model.proofs.Ring.{size-range}
 use Rattle.words.specs.Layout.{memory_ok, disk_ok, queue_ok, lent_ok, phase_ok, enabled_ok, framed, level, level_word, mem_len_word, size_word, desc_area_word, avail_area_word, used_area_word, chain_len_word, stage_len_word, taken_word, answered_word, descs_word, regions_from}
 
+-- for `grind`: a queue's size is in range
+pub ruleset sizes = (size-range)
+
 pub record QueueOk (s : List ℕ) : Type 0 where
   pub size-some : 1 ≤ get_or s size_word 0
   pub size-high : get_or s size_word 0 ≤ size_max

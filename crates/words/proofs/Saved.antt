@@ -108,3 +108,6 @@ others-saved s t a n p i h = put-apart s taken_word (t ∷ a ∷ (row_words (row
 pub length-saved : (s : List ℕ) (t a n : ℕ) (p : Phase) → length (saved s t a n p) ≡ length s
 unfolding saved
 length-saved s t a n p = length-put s taken_word (t ∷ a ∷ (row_words (row_of p) ++ (n ∷ [])))
+
+-- for `grind`: a row that was stored is the saved phase
+pub ruleset rows = (saved-row, kept_row, length-set)

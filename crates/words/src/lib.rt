@@ -2,17 +2,17 @@
 // words that set-up and steps don't make count as a state with nothing set up.
 #![tactic(auto)]
 
-ghost use Rattle.std.specs.Prelude.{◌≡◌, ◌+◌, ◌*◌, ◌≤◌, leb, length, get_or};
+ghost use Rattle.std.specs.Prelude.{◌≡◌, ◌+◌, ◌*◌, ◌≤◌, length, get_or};
 ghost use Rattle.model.specs.Bytes.{put};
 ghost use Rattle.model.specs.Ring.{size_max};
-ghost use Rattle.words.specs.Layout.{state_words, size_word, tag_word, job_tag, job_sector, row, row_of, job_of, phase_of, row_at, row_words, saved, kept, config_at, walk_at, place_at, memory_ok, disk_ok, queue_ok, lent_ok, tags_ok, phase_ok, enabled_ok, framed, level};
+ghost use Rattle.words.specs.Layout.{state_words, size_word, chain_len_word, stage_len_word, taken_word, answered_word, descs_word, tag_word, job_tag, job_sector, row, row_of, job_of, phase_of, row_at, row_words, saved, kept, config_at, walk_at, place_at, memory_ok, disk_ok, queue_ok, lent_ok, tags_ok, phase_ok, enabled_ok, framed, level};
 
 use model::{Disk, Job, Phase, Place, Queue, Walk};
 
 pub mod at;
 
 // The phase as numbers.
-#[derive(Clone, Copy)]
+#[derive(Clone, Copy, Default)]
 pub struct Row {
     pub tag: usize,
     pub head: usize,
@@ -26,165 +26,152 @@ pub struct Row {
     pub d: usize,
 }
 
-fn job_tag(job: Job) -> usize
-    ensures { result ≡ job_tag job }
+// A job's number, and the sector of one that has one.
+#[tactic(auto, unfolding(crate::specs::Layout::job_tag, crate::specs::Layout::job_sector))]
+fn job_numbers(job: Job) -> (usize, usize)
+    ensures tag { result.0 ≡ job_tag job }
+    ensures sector { result.1 ≡ job_sector job }
 {
     match job {
-        Job::Done => 0,
-        Job::Failed => 1,
-        Job::Unsupported => 2,
-        Job::Read(_) => 3,
-        Job::Identity => 4,
-        Job::Write(_) => 5,
+        Job::Done => (0, 0),
+        Job::Failed => (1, 0),
+        Job::Unsupported => (2, 0),
+        Job::Read(s) => (3, s),
+        Job::Identity => (4, 0),
+        Job::Write(s) => (5, s),
     }
 }
 
-fn job_sector(job: Job) -> usize
-    ensures { result ≡ job_sector job }
-{
-    match job {
-        Job::Done => 0,
-        Job::Failed => 0,
-        Job::Unsupported => 0,
-        Job::Read(s) => s,
-        Job::Identity => 0,
-        Job::Write(s) => s,
-    }
-}
-
+#[tactic(auto, unfolding(crate::specs::Layout::job_of))]
 pub fn job_of(tag: usize, s: usize) -> Job
     ensures { result ≡ job_of tag s }
 {
-    if tag == 0 {
-        return Job::Done;
-    }
-    if tag == 1 {
-        return Job::Failed;
-    }
-    if tag == 2 {
-        return Job::Unsupported;
-    }
-    if tag == 3 {
-        return Job::Read(s);
-    }
-    if tag == 4 {
-        return Job::Identity;
-    }
-    Job::Write(s)
-}
-
-fn numbers(tag: usize, k: Walk, a: usize, b: usize, c: usize, d: usize) -> Row
-    ensures { result ≡ row tag k a b c d }
-{
-    Row {
-        tag,
-        head: k.head,
-        count: k.count,
-        reads: k.reads,
-        r: k.r,
-        w: k.w,
-        a,
-        b,
-        c,
-        d,
+    match tag {
+        0 => Job::Done,
+        1 => Job::Failed,
+        2 => Job::Unsupported,
+        3 => Job::Read(s),
+        4 => Job::Identity,
+        _ => Job::Write(s),
     }
 }
 
-fn walk(head: usize, count: usize, reads: usize, r: usize, w: usize) -> Walk
-    ensures { result ≡ record { head = head; count = count; reads = reads; r = r; w = w } }
-{
-    Walk {
-        head,
-        count,
-        reads,
-        r,
-        w,
+impl Row {
+    // The phase with this number, for this request at hand: its own four words are still to come.
+    fn of(tag: usize, k: Walk) -> Row
+        ensures { result ≡ row tag k 0 0 0 0 }
+    {
+        Row {
+            tag,
+            head: k.head,
+            count: k.count,
+            reads: k.reads,
+            r: k.r,
+            w: k.w,
+            ..Row::default()
+        }
+    }
+
+    fn chain(k: Walk, cur: usize) -> Row
+        ensures { result ≡ row 3 k cur 0 0 0 }
+    {
+        Row {
+            a: cur,
+            ..Row::of(3, k)
+        }
+    }
+
+    fn payload(k: Walk, at: Place, sector: usize, got: usize) -> Row
+        ensures { result ≡ row 5 k at.buf at.skip sector got }
+    {
+        Row {
+            a: at.buf,
+            b: at.skip,
+            c: sector,
+            d: got,
+            ..Row::of(5, k)
+        }
     }
 }
 
-pub fn row_of(p: Phase) -> Row
-    ensures { result ≡ row_of p }
-{
-    match p {
-        Phase::Poll => numbers(1, walk(0, 0, 0, 0, 0), 0, 0, 0, 0),
-        Phase::Entry => numbers(2, walk(0, 0, 0, 0, 0), 0, 0, 0, 0),
-        Phase::Chain(k, cur) => numbers(3, k, cur, 0, 0, 0),
-        Phase::Header(k, at, got) => numbers(4, k, at.buf, at.skip, 0, got),
-        Phase::Payload(k, at, s, got) => numbers(5, k, at.buf, at.skip, s, got),
-        Phase::Answer(k, job, got) => numbers(6, k, job_tag(job), 0, job_sector(job), got),
-        Phase::Publish(k, got) => numbers(7, k, 0, 0, 0, got),
-        Phase::Broken(reason, head, count, at) => numbers(
-            8,
-            walk(head, count, 0, 0, 0),
-            reason,
-            at,
-            0,
-            0,
-        ),
-    }
-}
-
-pub fn phase_of(x: Row) -> Phase
-    ensures { result ≡ phase_of x }
-{
-    let k = walk(x.head, x.count, x.reads, x.r, x.w);
-    if x.tag == 1 {
-        return Phase::Poll;
-    }
-    if x.tag == 2 {
-        return Phase::Entry;
-    }
-    if x.tag == 3 {
-        return Phase::Chain(k, x.a);
-    }
-    if x.tag == 4 {
-        return Phase::Header(
-            k,
-            Place {
-                buf: x.a,
-                skip: x.b,
+impl From<Phase> for Row {
+    #[tactic(auto, unfolding(crate::specs::Layout::row_of))]
+    fn from(p: Phase) -> Row
+        ensures { result ≡ row_of p }
+    {
+        match p {
+            Phase::Poll => Row {
+                tag: 1,
+                ..Row::default()
             },
-            x.d,
-        );
-    }
-    if x.tag == 5 {
-        return Phase::Payload(
-            k,
-            Place {
-                buf: x.a,
-                skip: x.b,
+            Phase::Entry => Row {
+                tag: 2,
+                ..Row::default()
             },
-            x.c,
-            x.d,
-        );
+            Phase::Chain(k, cur) => Row::chain(k, cur),
+            Phase::Header(k, at, got) => Row {
+                a: at.buf,
+                b: at.skip,
+                d: got,
+                ..Row::of(4, k)
+            },
+            Phase::Payload(k, at, sector, got) => Row::payload(k, at, sector, got),
+            Phase::Answer(k, job, got) => {
+                let (a, c) = job_numbers(job);
+                Row {
+                    a,
+                    c,
+                    d: got,
+                    ..Row::of(6, k)
+                }
+            }
+            Phase::Publish(k, got) => Row {
+                d: got,
+                ..Row::of(7, k)
+            },
+            Phase::Broken(reason, head, count, at) => Row {
+                tag: 8,
+                head,
+                count,
+                a: reason,
+                b: at,
+                ..Row::default()
+            },
+        }
     }
-    if x.tag == 6 {
-        return Phase::Answer(k, job_of(x.a, x.c), x.d);
-    }
-    if x.tag == 7 {
-        return Phase::Publish(k, x.d);
-    }
-    Phase::Broken(x.a, x.head, x.count, x.b)
 }
 
-pub fn row_at(s: &[usize]) -> Row
-    requires { state_words ≤ length s.now }
-    ensures { result ≡ row_at s.now }
-{
-    Row {
-        tag: s[at::TAG],
-        head: s[at::HEAD],
-        count: s[at::COUNT],
-        reads: s[at::READS],
-        r: s[at::R],
-        w: s[at::W],
-        a: s[at::A],
-        b: s[at::B],
-        c: s[at::C],
-        d: s[at::D],
+impl From<Row> for Phase {
+    #[tactic(auto, unfolding(crate::specs::Layout::phase_of))]
+    fn from(x: Row) -> Phase
+        ensures { result ≡ phase_of x }
+    {
+        let k = Walk {
+            head: x.head,
+            count: x.count,
+            reads: x.reads,
+            r: x.r,
+            w: x.w,
+        };
+        let at = Place {
+            buf: x.a,
+            skip: x.b,
+        };
+        match x.tag {
+            1 => Phase::Poll,
+            2 => Phase::Entry,
+            3 => Phase::Chain(k, x.a),
+            4 => Phase::Header(k, at, x.d),
+            5 => Phase::Payload(k, at, x.c, x.d),
+            6 => Phase::Answer(k, job_of(x.a, x.c), x.d),
+            7 => Phase::Publish(k, x.d),
+            _ => Phase::Broken(x.a, x.head, x.count, x.b),
+        }
     }
 }
 
+// What writes the words takes the slice and its length as a clause: a struct that held the `&mut` would have each of these
+// functions promise that it still holds the same slice, which is longer than the clause that it would save.
 fn save_row(s: &mut [usize], x: Row)
     requires { state_words ≤ length s.old }
     ensures { s.new ≡ put s.old tag_word (row_words x) }
@@ -202,6 +189,7 @@ fn save_row(s: &mut [usize], x: Row)
 }
 
 // The counters, the last complete chain's number of descriptors and the phase are all that steps change.
+#[tactic(auto, using(crate::proofs::Saved::rows))]
 pub fn save(s: &mut [usize], taken: usize, answered: usize, descs: usize, p: Phase)
     requires { state_words ≤ length s.old }
     ensures { s.new ≡ saved s.old taken answered descs p }
@@ -209,245 +197,243 @@ pub fn save(s: &mut [usize], taken: usize, answered: usize, descs: usize, p: Pha
     s[at::TAKEN] = taken;
     s[at::ANSWERED] = answered;
     s[at::DESCS] = descs;
-    save_row(s, row_of(p));
+    save_row(s, Row::from(p));
 }
 
 // Most steps change the phase alone.
+#[tactic(auto, using(crate::proofs::Saved::rows))]
 pub fn save_phase(s: &mut [usize], p: Phase)
     requires { state_words ≤ length s.old }
     ensures { s.new ≡ kept s.old p }
 {
-    save_row(s, row_of(p));
+    save_row(s, Row::from(p));
 }
 
 // The two phases that a long request stays in for many steps are saved without a choice by the phase.
+#[tactic(auto, using(crate::proofs::Saved::rows), unfolding(crate::specs::Layout::row_of))]
 pub fn save_chain(s: &mut [usize], k: Walk, cur: usize)
     requires { state_words ≤ length s.old }
     ensures { s.new ≡ kept s.old (Phase.Chain k cur) }
 {
-    save_row(s, numbers(3, k, cur, 0, 0, 0));
+    save_row(s, Row::chain(k, cur));
 }
 
+#[tactic(auto, using(crate::proofs::Saved::rows), unfolding(crate::specs::Layout::row_of))]
 pub fn save_payload(s: &mut [usize], k: Walk, at: Place, sector: usize, got: usize)
     requires { state_words ≤ length s.old }
     ensures { s.new ≡ kept s.old (Phase.Payload k at sector got) }
 {
-    save_row(s, numbers(5, k, at.buf, at.skip, sector, got));
+    save_row(s, Row::payload(k, at, sector, got));
 }
 
-pub fn queue_at(s: &[usize]) -> Queue
-    requires { state_words ≤ length s.now }
-    ensures { result ≡ (config_at s.now).queue }
-{
-    Queue {
-        size: s[at::SIZE],
-        desc: s[at::DESC],
-        avail: s[at::AVAIL],
-        used: s[at::USED],
-    }
-}
-
-pub fn disk_at(s: &[usize]) -> Disk
-    requires { state_words ≤ length s.now }
-    ensures { result ≡ (config_at s.now).disk }
-{
-    Disk {
-        start: s[at::START],
-        sectors: s[at::SECTORS],
-        ro: s[at::RO],
-    }
-}
-
-pub fn walk_at(s: &[usize]) -> Walk
-    requires { state_words ≤ length s.now }
-    ensures { result ≡ walk_at s.now }
-{
-    walk(s[at::HEAD], s[at::COUNT], s[at::READS], s[at::R], s[at::W])
-}
-
-pub fn place_at(s: &[usize]) -> Place
-    requires { state_words ≤ length s.now }
-    ensures { result ≡ place_at s.now }
-{
-    Place {
-        buf: s[at::A],
-        skip: s[at::B],
-    }
-}
-
-fn memory_ok(s: &[usize]) -> bool
-    requires { state_words ≤ length s.now }
-    ensures { result ≡ memory_ok s.now }
-{
-    let n = s[at::REGIONS];
-    if n < 1 {
-        return false;
-    }
-    if regions::REGIONS_MAX < n {
-        return false;
-    }
-    let end = at::MAP + 3 * n;
-    regions::all_sound(s[at::MEM_LEN], &s[at::MAP..end])
-}
-
-fn disk_ok(s: &[usize]) -> bool
-    requires { state_words ≤ length s.now }
-    ensures { result ≡ disk_ok s.now }
-{
-    if disk::disk_code(s[at::START], s[at::SECTORS], s[at::BACKING_LEN]) != 0 {
-        return false;
-    }
-    if 1 < s[at::RO] {
-        return false;
-    }
-    s[at::ID2] < 4294967296
-}
-
-// Does an area of n bytes at this offset lie in a slice of m bytes?
-fn area_ok(m: usize, at: usize, n: usize) -> bool
-    ensures { result ≡ leb (at + n) m }
-{
-    if m < n {
-        return false;
-    }
-    if m - n < at {
-        return false;
-    }
-    true
-}
-
-fn lent_ok(
-    q: usize,
-    chain: usize,
-    stage: usize,
-    taken: usize,
-    answered: usize,
-    descs: usize,
-) -> bool
-    requires { q ≤ size_max }
-    ensures { result ≡ lent_ok q chain stage taken answered descs }
-{
-    if chain < 2 * q {
-        return false;
-    }
-    if stage < 1048576 {
-        return false;
-    }
-    if 65536 <= taken {
-        return false;
-    }
-    if 65536 <= answered {
-        return false;
-    }
-    descs <= q
-}
-
-fn queue_ok(s: &[usize]) -> bool
-    requires { state_words ≤ length s.now }
-    ensures { result ≡ queue_ok s.now }
-{
-    let q = s[at::SIZE];
-    let m = s[at::MEM_LEN];
-    if ring::size_ok(q) {
-        if area_ok(m, s[at::DESC], 16 * q) {
-            if area_ok(m, s[at::AVAIL], 6 + 2 * q) {
-                if area_ok(m, s[at::USED], 6 + 8 * q) {
-                    return lent_ok(
-                        q,
-                        s[at::CHAIN_LEN],
-                        s[at::STAGE_LEN],
-                        s[at::TAKEN],
-                        s[at::ANSWERED],
-                        s[at::DESCS],
-                    );
-                }
-                return false;
-            }
-            return false;
-        }
-        return false;
-    }
-    false
-}
-
+#[tactic(auto, using(model::proofs::Tests::tests), unfolding(crate::specs::Layout::tags_ok))]
 fn tags_ok(tag: usize, job: usize) -> bool
     ensures { result ≡ tags_ok tag job }
 {
-    if tag < 1 {
-        return false;
+    match tag {
+        0 => false,
+        6 => job <= 5,
+        _ => tag <= 8,
     }
-    if 8 < tag {
-        return false;
-    }
-    if tag == 6 {
-        return job <= 5;
-    }
-    true
 }
 
-fn phase_ok(s: &[usize]) -> bool
-    requires state_words_in_bounds { state_words ≤ length s.now }
-    requires size_word_bound { get_or s.now size_word 0 ≤ size_max }
-    ensures { result ≡ phase_ok s.now }
-{
-    if tags_ok(s[at::TAG], s[at::A]) {
-        let x = row_at(s);
-        let p = phase_of(x);
-        return sane::sane(s[at::SIZE], s[at::SECTORS], p);
-    }
-    false
+// The lent words, to read: at least as many as a state has.
+#[derive(Clone, Copy)]
+pub struct State<'a> {
+    pub words: &'a [usize],
+    pub ghost long: { state_words ≤ length words.now },
 }
 
-fn enabled_ok(s: &[usize]) -> bool
-    requires { state_words ≤ length s.now }
-    ensures { result ≡ enabled_ok s.now }
-{
-    if queue_ok(s) {
-        return phase_ok(s);
+impl State<'_> {
+    #[tactic(auto, unfolding(crate::specs::Layout::row_at))]
+    pub fn row(self) -> Row
+        ensures { result ≡ row_at self.entry.words.now }
+    {
+        Row {
+            tag: self.words[at::TAG],
+            head: self.words[at::HEAD],
+            count: self.words[at::COUNT],
+            reads: self.words[at::READS],
+            r: self.words[at::R],
+            w: self.words[at::W],
+            a: self.words[at::A],
+            b: self.words[at::B],
+            c: self.words[at::C],
+            d: self.words[at::D],
+        }
     }
-    false
-}
 
-// Is a queue enabled, as far as that doesn't hang on the phase? A step tests the rest by itself, for its own phase alone.
-pub fn framed(s: &[usize]) -> bool
-    requires { state_words ≤ length s.now }
-    ensures { result ≡ framed s.now }
-{
-    if s[at::LEVEL] == 3 {
-        if memory_ok(s) {
-            if disk_ok(s) {
-                return queue_ok(s);
-            }
+    #[tactic(auto, unfolding(crate::specs::Layout::config_at))]
+    pub fn queue(self) -> Queue
+        ensures { result ≡ (config_at self.entry.words.now).queue }
+    {
+        Queue {
+            size: self.words[at::SIZE],
+            desc: self.words[at::DESC],
+            avail: self.words[at::AVAIL],
+            used: self.words[at::USED],
+        }
+    }
+
+    #[tactic(auto, unfolding(crate::specs::Layout::config_at))]
+    pub fn disk(self) -> Disk
+        ensures { result ≡ (config_at self.entry.words.now).disk }
+    {
+        Disk {
+            start: self.words[at::START],
+            sectors: self.words[at::SECTORS],
+            ro: self.words[at::RO],
+        }
+    }
+
+    // The request at hand, and the place in its buffers.
+    pub fn walk(self) -> Walk
+        ensures { result ≡ walk_at self.entry.words.now }
+    {
+        Walk {
+            head: self.words[at::HEAD],
+            count: self.words[at::COUNT],
+            reads: self.words[at::READS],
+            r: self.words[at::R],
+            w: self.words[at::W],
+        }
+    }
+
+    pub fn place(self) -> Place
+        ensures { result ≡ place_at self.entry.words.now }
+    {
+        Place {
+            buf: self.words[at::A],
+            skip: self.words[at::B],
+        }
+    }
+
+    #[tactic(auto, using(model::proofs::Tests::tests), unfolding(crate::specs::Layout::memory_ok))]
+    fn memory_ok(self) -> bool
+        ensures { result ≡ memory_ok self.entry.words.now }
+    {
+        let n = self.words[at::REGIONS];
+        if n < 1 {
             return false;
         }
-        return false;
+        if regions::REGIONS_MAX < n {
+            return false;
+        }
+        let end = at::MAP + 3 * n;
+        regions::all_sound(self.words[at::MEM_LEN], &self.words[at::MAP..end])
     }
-    false
-}
 
-// How far set-up has come: 0 nothing, 1 memory, 2 disk, 3 enabled.
-pub fn level(s: &[usize]) -> usize
-    requires { state_words ≤ length s.now }
-    ensures { result ≡ level s.now }
-{
-    let tag = s[at::LEVEL];
-    if memory_ok(s) {
+    #[tactic(auto, using(model::proofs::Tests::tests), unfolding(crate::specs::Layout::disk_ok))]
+    fn disk_ok(self) -> bool
+        ensures { result ≡ disk_ok self.entry.words.now }
+    {
+        if disk::disk_code(
+            self.words[at::START],
+            self.words[at::SECTORS],
+            self.words[at::BACKING_LEN],
+        ) != 0
+        {
+            return false;
+        }
+        if 1 < self.words[at::RO] {
+            return false;
+        }
+        self.words[at::ID2] < 4294967296
+    }
+
+    // The memory that was lent for this queue, the counters, and how many descriptors a chain may have had.
+    #[tactic(auto, using(model::proofs::Tests::tests), unfolding(crate::specs::Layout::lent_ok))]
+    fn lent_ok(self) -> bool
+        requires { get_or self.words.now size_word 0 ≤ size_max }
+        ensures { let s = self.entry.words.now in result ≡ lent_ok (get_or s size_word 0) (get_or s chain_len_word 0) (get_or s stage_len_word 0) (get_or s taken_word 0) (get_or s answered_word 0) (get_or s descs_word 0) }
+    {
+        let q = self.words[at::SIZE];
+        if self.words[at::CHAIN_LEN] < 2 * q {
+            return false;
+        }
+        if self.words[at::STAGE_LEN] < 1048576 {
+            return false;
+        }
+        if 65536 <= self.words[at::TAKEN] {
+            return false;
+        }
+        if 65536 <= self.words[at::ANSWERED] {
+            return false;
+        }
+        self.words[at::DESCS] <= q
+    }
+
+    #[tactic(auto, using(model::proofs::Tests::tests, crate::proofs::Laws::sizes), unfolding(crate::specs::Layout::queue_ok, model::specs::Sane::inside))]
+    fn queue_ok(self) -> bool
+        ensures { result ≡ queue_ok self.entry.words.now }
+    {
+        let q = self.words[at::SIZE];
+        let m = self.words[at::MEM_LEN];
+        if !ring::size_ok(q) {
+            return false;
+        }
+        if !sane::inside(m, self.words[at::DESC], 16 * q) {
+            return false;
+        }
+        if !sane::inside(m, self.words[at::AVAIL], 6 + 2 * q) {
+            return false;
+        }
+        sane::inside(m, self.words[at::USED], 6 + 8 * q) && self.lent_ok()
+    }
+
+    #[tactic(auto, using(model::proofs::Tests::tests), unfolding(crate::specs::Layout::phase_ok))]
+    fn phase_ok(self) -> bool
+        requires { get_or self.words.now size_word 0 ≤ size_max }
+        ensures { result ≡ phase_ok self.entry.words.now }
+    {
+        tags_ok(self.words[at::TAG], self.words[at::A])
+            && sane::sane(
+                self.words[at::SIZE],
+                self.words[at::SECTORS],
+                Phase::from(self.row()),
+            )
+    }
+
+    #[tactic(auto, using(model::proofs::Tests::tests), unfolding(crate::specs::Layout::enabled_ok))]
+    fn enabled_ok(self) -> bool
+        ensures { result ≡ enabled_ok self.entry.words.now }
+    {
+        self.queue_ok() && self.phase_ok()
+    }
+
+    // Is a queue enabled, as far as that doesn't hang on the phase? A step tests the rest by itself, for its own phase alone.
+    #[tactic(auto, using(model::proofs::Tests::tests), unfolding(crate::specs::Layout::framed))]
+    pub fn framed(self) -> bool
+        ensures { result ≡ framed self.entry.words.now }
+    {
+        if self.words[at::LEVEL] != 3 {
+            return false;
+        }
+        if !self.memory_ok() {
+            return false;
+        }
+        self.disk_ok() && self.queue_ok()
+    }
+
+    // How far set-up has come: 0 nothing, 1 memory, 2 disk, 3 enabled.
+    #[tactic(auto, using(model::proofs::Tests::tests), unfolding(crate::specs::Layout::level))]
+    pub fn level(self) -> usize
+        ensures { result ≡ level self.entry.words.now }
+    {
+        let tag = self.words[at::LEVEL];
+        if !self.memory_ok() {
+            return 0;
+        }
         if tag == 1 {
             return 1;
         }
-        if disk_ok(s) {
-            if tag == 2 {
-                return 2;
-            }
-            if tag == 3 {
-                if enabled_ok(s) {
-                    return 3;
-                }
-                return 0;
-            }
+        if !self.disk_ok() {
             return 0;
         }
-        return 0;
+        match tag {
+            2 => 2,
+            3 if self.enabled_ok() => 3,
+            _ => 0,
+        }
     }
-    0
 }

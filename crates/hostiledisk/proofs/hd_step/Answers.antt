@@ -11,23 +11,20 @@ pub returns-then-state-lt-STATE_WORDS : goal.returns-then-state-lt-STATE_WORDS
 unfolding hd_step
 returns-then-state-lt-STATE_WORDS c = rw (lt-ltb _ state_words c.if-state-lt-STATE_WORDS.true) (untouched-is _ _ _ _ _ _)
 
-pub broken-requires-clause-state_words_in_bounds : goal.broken-requires-clause-state_words_in_bounds
-broken-requires-clause-state_words_in_bounds c = c.if-state-lt-STATE_WORDS.false
-
-pub broken-requires-clause-state_value : goal.broken-requires-clause-state_value
-broken-requires-clause-state_value c = sym c.framed.ensures ∙ c.if-framed.true
+pub broken-requires : goal.broken-requires
+broken-requires c = sym c.framed.ensures ∙ c.if-not-framed.false
 
 pub returns-then-tag-ge8 : goal.returns-then-tag-ge8
-returns-then-tag-ge8 c = rw c.broken.ensures (broken-is _ _ _ _ _ c.if-state-lt-STATE_WORDS.false (sym c.framed.ensures ∙ c.if-framed.true) c.if-tag-ge8.true)
+returns-then-tag-ge8 c = rw c.broken.ensures (broken-is _ _ _ _ _ c.if-state-lt-STATE_WORDS.false (sym c.framed.ensures ∙ c.if-not-framed.false) c.if-tag-ge8.true)
 
 pub go-requires-clause-framed : goal.go-requires-clause-framed
-go-requires-clause-framed c = record { words_long = c.if-state-lt-STATE_WORDS.false; frame = sym c.framed.ensures ∙ c.if-framed.true; tag_is = refl; slices-long = sym c.long_enough.ensures ∙ c.if-long_enough.true }
+go-requires-clause-framed c = record { words_long = c.if-state-lt-STATE_WORDS.false; frame = sym c.framed.ensures ∙ c.if-not-framed.false; tag_is = refl; slices-long = sym c.long_enough.ensures ∙ c.if-not-long_enough.false }
 
 pub go-requires-clause-tag_bound : goal.go-requires-clause-tag_bound
 go-requires-clause-tag_bound c = c.if-tag-ge8.false
 
-pub returns-then-framed : goal.returns-then-framed
-returns-then-framed c = short _ _ _ _ _ c.if-state-lt-STATE_WORDS.false (sym c.framed.ensures ∙ c.if-framed.true) c.if-tag-ge8.false (sym c.long_enough.ensures ∙ c.if-long_enough.false)
+pub returns-then-not-long_enough : goal.returns-then-not-long_enough
+returns-then-not-long_enough c = short _ _ _ _ _ c.if-state-lt-STATE_WORDS.false (sym c.framed.ensures ∙ c.if-not-framed.false) c.if-tag-ge8.false (sym c.long_enough.ensures ∙ c.if-not-long_enough.true)
 
-pub returns : goal.returns
-returns c = unframed _ _ _ _ _ c.if-state-lt-STATE_WORDS.false (sym c.framed.ensures ∙ c.if-framed.false)
+pub returns-then-not-framed : goal.returns-then-not-framed
+returns-then-not-framed c = unframed _ _ _ _ _ c.if-state-lt-STATE_WORDS.false (sym c.framed.ensures ∙ c.if-not-framed.true)

@@ -28,24 +28,24 @@ slice_bounds-descriptor-end c = omega (arith, framed-few _ c.requires.frame, c.r
 
 pub descriptor-x-requires : goal.descriptor-x-requires
 unfolding part config_at ready
-descriptor-x-requires c = let n = get_or c.args.state.now regions_word 0 in let e = map-long n in let t = sym c.chain_sane.ensures ∙ c.if-chain_sane.true in let f = fit-held _ _ _ _ c.args.chain.now _ (held-chain _ _ _ _ _ c.requires _ c.walk_at-k.ensures) (sane-chain _ _ _ _ t) refl in let h = chain-ok _ _ _ _ t in rw (c.queue_at-q.ensures, e) (record { map_value = f.sound-map; size_le_size_max = omega (arith, h, f); size_in_bounds = omega (arith, h, f); size_in_bounds_2 = omega (arith, h, f); cur_lt_size = omega (arith, h, f); count_le_size = omega (arith, h, f); reads_le_count = omega (arith, h, f); r_bound = omega (arith, h, f); w_bound = omega (arith, h, f) })
+descriptor-x-requires c = let n = get_or c.args.state.now regions_word 0 in let e = map-long n in let t = sym c.chain_sane.ensures ∙ c.if-not-chain_sane.false in let f = fit-held _ _ _ _ c.args.chain.now _ (held-chain _ _ _ _ _ c.requires _ c.walk-k.ensures) (sane-chain _ _ _ _ t) refl in let h = chain-ok _ _ _ _ t in rw (c.queue.ensures, e) (record { map_value = f.sound-map; size_le_size_max = omega (arith, h, f); size_in_bounds = omega (arith, h, f); size_in_bounds_2 = omega (arith, h, f); cur_lt_size = omega (arith, h, f); count_le_size = omega (arith, h, f); reads_le_count = omega (arith, h, f); r_bound = omega (arith, h, f); w_bound = omega (arith, h, f) })
 
 pub save_chain-requires : goal.save_chain-requires
 save_chain-requires c = c.requires.words_long
 
 pub returns-in-Chain : goal.returns-in-Chain
 unfolding part code_after ready
-returns-in-Chain c = let n = get_or c.args.state.now regions_word 0 in let e = map-long n in let q = c.queue_at-q.ensures in let d = c.descriptor-x.ensures in let g = c.in-Chain.is in let t = rw (q, e) at d.phase_value in acted _ _ _ _ _ _ (held-chain _ _ _ _ _ c.requires _ c.walk_at-k.ensures) (sane-chain _ _ _ _ (sym c.chain_sane.ensures ∙ c.if-chain_sane.true)) refl _ _ _ _ _ _ _ _ _ _ (met-chain _ _ _ _ _ _ _ _ _ _ _ _ _ t (sym (chain-on _ _ _ _ _ _ _ (sym t ∙ g))) (rw (q, e) at d.chain_after)) (rw g c.save_chain.ensures) _ (rw g)
+returns-in-Chain c = let n = get_or c.args.state.now regions_word 0 in let e = map-long n in let q = c.queue.ensures in let d = c.descriptor-x.ensures in let g = c.in-Chain.is in let t = rw (q, e) at d.phase_value in acted _ _ _ _ _ _ (held-chain _ _ _ _ _ c.requires _ c.walk-k.ensures) (sane-chain _ _ _ _ (sym c.chain_sane.ensures ∙ c.if-not-chain_sane.false)) refl _ _ _ _ _ _ _ _ _ _ (met-chain _ _ _ _ _ _ _ _ _ _ _ _ _ t (sym (chain-on _ _ _ _ _ _ _ (sym t ∙ g))) (rw (q, e) at d.chain_after)) (rw g c.save_chain.ensures) _ (rw g)
 
 pub finish-requires : goal.finish-requires
 finish-requires c = simp length-set c.requires.words_long
 
-pub shape_of-state-then-chain_sane : goal.shape_of-state-then-chain_sane
-shape_of-state-then-chain_sane c = c.finish.auto.state ∙ simp length-set
-
-pub returns-then-chain_sane : goal.returns-then-chain_sane
-unfolding part ready
-returns-then-chain_sane c = let n = get_or c.args.state.now regions_word 0 in let e = map-long n in let q = c.queue_at-q.ensures in let d = c.descriptor-x.ensures in acted _ _ _ _ _ _ (held-chain _ _ _ _ _ c.requires _ c.walk_at-k.ensures) (sane-chain _ _ _ _ (sym c.chain_sane.ensures ∙ c.if-chain_sane.true)) refl _ _ _ _ _ _ _ _ _ _ (met-chain _ _ _ _ _ _ _ _ _ _ _ _ _ (rw (q, e) at d.phase_value) (rw (q, e) at d.descs_value) (rw (q, e) at d.chain_after)) (c.finish.ensures.state_after ∙ kept-descs _ _ _ c.requires.words_long) _ c.finish.ensures.value
+pub shape_of-state : goal.shape_of-state
+shape_of-state c = c.finish.auto.state ∙ simp length-set
 
 pub returns : goal.returns
-returns c = insane _ _ _ _ _ _ (held-chain _ _ _ _ _ c.requires _ c.walk_at-k.ensures) (sane-chain _ _ _ _ (sym c.chain_sane.ensures ∙ c.if-chain_sane.false))
+unfolding part ready
+returns c = let n = get_or c.args.state.now regions_word 0 in let e = map-long n in let q = c.queue.ensures in let d = c.descriptor-x.ensures in acted _ _ _ _ _ _ (held-chain _ _ _ _ _ c.requires _ c.walk-k.ensures) (sane-chain _ _ _ _ (sym c.chain_sane.ensures ∙ c.if-not-chain_sane.false)) refl _ _ _ _ _ _ _ _ _ _ (met-chain _ _ _ _ _ _ _ _ _ _ _ _ _ (rw (q, e) at d.phase_value) (rw (q, e) at d.descs_value) (rw (q, e) at d.chain_after)) (c.finish.ensures.state_after ∙ kept-descs _ _ _ c.requires.words_long) _ c.finish.ensures.value
+
+pub returns-then-not-chain_sane : goal.returns-then-not-chain_sane
+returns-then-not-chain_sane c = insane _ _ _ _ _ _ (held-chain _ _ _ _ _ c.requires _ c.walk-k.ensures) (sane-chain _ _ _ _ (sym c.chain_sane.ensures ∙ c.if-not-chain_sane.true))

@@ -8,15 +8,15 @@ use Rattle.hostiledisk.proofs.arms.entry.Goals as goal
 
 pub entry-p-requires : goal.entry-p-requires
 unfolding sane ready
-entry-p-requires c = let f = fit-held _ _ _ _ c.args.chain.now _ (held-entry _ _ _ _ _ c.requires) refl refl in rw c.queue_at-q.ensures (omega (arith, f))
+entry-p-requires c = let f = fit-held _ _ _ _ c.args.chain.now _ (held-entry _ _ _ _ _ c.requires) refl refl in rw c.queue.ensures (omega (arith, f))
 
 pub save_chain-requires : goal.save_chain-requires
 save_chain-requires c = c.requires.words_long
 
 pub returns-in-Chain : goal.returns-in-Chain
 unfolding sane ready code_after
-returns-in-Chain c = let g = c.in-Chain.is in acted _ _ _ _ _ _ (held-entry _ _ _ _ _ c.requires) refl refl _ _ _ _ _ _ _ _ _ _ (met-entry _ _ _ _ _ _ _ _ _ (rw c.queue_at-q.ensures at c.entry-p.ensures)) (rw g c.save_chain.ensures) _ (rw g)
+returns-in-Chain c = let g = c.in-Chain.is in acted _ _ _ _ _ _ (held-entry _ _ _ _ _ c.requires) refl refl _ _ _ _ _ _ _ _ _ _ (met-entry _ _ _ _ _ _ _ _ _ (rw c.queue.ensures at c.entry-p.ensures)) (rw g c.save_chain.ensures) _ (rw g)
 
 pub returns : goal.returns
 unfolding sane ready
-returns c = acted _ _ _ _ _ _ (held-entry _ _ _ _ _ c.requires) refl refl _ _ _ _ _ _ _ _ _ _ (met-entry _ _ _ _ _ _ _ _ _ (rw c.queue_at-q.ensures at c.entry-p.ensures)) c.finish.ensures.state_after _ c.finish.ensures.value
+returns c = acted _ _ _ _ _ _ (held-entry _ _ _ _ _ c.requires) refl refl _ _ _ _ _ _ _ _ _ _ (met-entry _ _ _ _ _ _ _ _ _ (rw c.queue.ensures at c.entry-p.ensures)) c.finish.ensures.state_after _ c.finish.ensures.value

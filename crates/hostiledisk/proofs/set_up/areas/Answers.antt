@@ -7,18 +7,18 @@ use Rattle.model.specs.Bytes.{part}
 use Rattle.hostiledisk.proofs.set_up.areas.Goals as goal
 
 pub overflow_mul-end : goal.overflow_mul-end
-overflow_mul-end c = omega (arith, (memory-ok _ c.requires.state_value).few)
+overflow_mul-end c = omega (arith, (memory-ok _ c.requires).few)
 
 pub overflow_add-end : goal.overflow_add-end
-overflow_add-end c = omega (arith, (memory-ok _ c.requires.state_value).few)
+overflow_add-end c = omega (arith, (memory-ok _ c.requires).few)
 
 pub slice_bounds-areas-end : goal.slice_bounds-areas-end
-slice_bounds-areas-end c = omega (arith, (memory-ok _ c.requires.state_value).few, c.requires.state_words_in_bounds)
+slice_bounds-areas-end c = omega (arith, (memory-ok _ c.requires).few, c.args.state.long)
 
 pub areas-requires : goal.areas-requires
 unfolding part
-areas-requires c = let n = get_or c.args.state.now regions_word 0 in let e = map-long n in rw e (memory-ok _ c.requires.state_value).sound-map
+areas-requires c = let n = get_or c.args.state.words.now regions_word 0 in let e = map-long n in rw e (memory-ok _ c.requires).sound-map
 
 pub returns : goal.returns
 unfolding part
-returns c = let n = get_or c.args.state.now regions_word 0 in let e = map-long n in rw e at c.areas.ensures
+returns c = let n = get_or c.args.state.words.now regions_word 0 in let e = map-long n in rw e at c.areas.ensures
