@@ -1,44 +1,47 @@
 // What a row of the documents changed in guest memory. Two bytes of every sector of the disk are 0xee, as is memory that
 // nobody has laid: so reading a sector changes 510 bytes.
 use crate::guest::Bytes;
-use crate::{guest, say};
+use crate::say::Words;
 use std::io;
+use std::ops::Range;
 
-// How many bytes changed: of the descriptors, of the available ring, of the used ring, of the header,
-// and of the places from up to to.
-pub fn changed(
-    rt: &impl Print,
-    mem: &Bytes,
-    before: &Bytes,
-    from: usize,
-    to: usize,
-) -> io::Result<()> {
-    say::text(rt, b", changed")?;
-    count(rt, mem, before, 0x1000, 0x1080)?;
-    count(rt, mem, before, 0x2000, 0x2016)?;
-    count(rt, mem, before, 0x3000, 0x3046)?;
-    count(rt, mem, before, 0x4000, 0x4010)?;
-    count(rt, mem, before, from, to)?;
-    say::line(rt)
-}
+// The queue of 01 §6 and the header: descriptors, available ring, used ring, header.
+const LAID: [Range<usize>; 4] = [
+    0x1000..0x1080,
+    0x2000..0x2016,
+    0x3000..0x3046,
+    0x4000..0x4010,
+];
 
-pub fn count(rt: &impl Print, a: &Bytes, b: &Bytes, from: usize, to: usize) -> io::Result<()> {
-    say::text(rt, b" ")?;
-    say::number(rt, guest::differ(a, b, from, to))
-}
+impl Bytes {
+    // How many bytes of each of these areas are not as before.
+    pub fn changed<const N: usize>(&self, before: &Bytes, areas: &[Range<usize>; N]) -> [usize; N] {
+        let mut counts = [0; N];
+        for (count, area) in counts.iter_mut().zip(areas) {
+            *count = self.differ(before, area);
+        }
+        counts
+    }
 
-// Nobody has laid anything: the descriptors, the rings, the header, and the places from up to to.
-pub fn clear(mem: &mut Bytes, from: usize, to: usize) {
-    guest::blank(mem, 0x1000, 0x1080);
-    guest::blank(mem, 0x2000, 0x2016);
-    guest::blank(mem, 0x3000, 0x3046);
-    guest::blank(mem, 0x4000, 0x4010);
-    guest::blank(mem, from, to);
-}
+    // Nobody has laid anything: the queue, the header, and these places.
+    pub fn clear(&mut self, places: &Range<usize>) {
+        for area in &LAID {
+            self.blank(area);
+        }
+        self.blank(places);
+    }
 
-// What bytes stand from place k on.
-pub fn show(rt: &impl Print, name: &[u8], mem: &Bytes, k: usize, n: usize) -> io::Result<()> {
-    say::text(rt, name)?;
-    say::text(rt, b" ")?;
-    say::part(rt, mem, k, n)
+    // Ends the line of a row whose data may go to these places, and clears what it laid.
+    pub fn settle(
+        &mut self,
+        rt: &impl Print,
+        before: &Bytes,
+        places: &Range<usize>,
+    ) -> io::Result<()> {
+        let laid = self.changed(before, &LAID);
+        let data = self.differ(before, places);
+        println!(rt; ", changed{} {data}", Words(&laid))?;
+        self.clear(places);
+        Ok(())
+    }
 }

@@ -1,179 +1,112 @@
 // The table of 03 §6. A line: the request and its buffers; the answers of the steps; status and len; the first data bytes;
 // what changed.
-use crate::guest::Bytes;
-use crate::host::Stage;
-use crate::{areas, guest, host, say};
-use std::io;
+use crate::guest::{Kind, WRITE};
+use crate::host::{self, Host};
+use std::ops::Range;
+use std::{fmt, io};
 
-// For each row type, sector, r, w, whether the disk is read-only, and how many data bytes to show.
-#[rattlefmt::skip]
-const ROWS: [usize; 96] = [
-    0, 63, 16, 513, 0, 4, // IN
-    0, 64, 16, 513, 0, 4,
-    0, 64, 16, 1, 0, 0,
-    0, 65, 16, 1, 0, 0,
-    0, 0xffff_ffff_ffff_ffff, 16, 1025, 0, 4,
-    1, 7, 528, 1, 1, 0, // OUT
-    8, 0, 16, 21, 0, 20, // GET_ID
-    8, 0, 16, 20, 0, 4,
-    4, 0, 16, 1, 0, 0, // FLUSH
-    4, 0, 16, 2, 0, 1,
-    2, 0, 16, 1, 0, 0, // type 2
-    0, 0, 15, 1, 0, 0, // any
-    1, 0, 15, 1, 0, 0,
-    2, 0, 15, 1, 0, 0,
-    4, 0, 15, 1, 0, 0,
-    8, 0, 15, 1, 0, 0,
-];
-
-#[derive(Clone, Copy)]
+// Bytes r and w; whether the disk is read-only; how many data bytes to show.
 struct Request {
-    kind: usize,
+    kind: Kind,
     sector: usize,
     r: usize,
-    w: usize,
-    read_only: usize,
-    shown: usize,
+    w: u16,
+    read_only: bool,
+    shown: u16,
 }
 
-// Word k of the rows.
-fn cell(k: usize) -> usize {
-    let rows = ROWS;
-    if k < 96 {
-        return rows[k];
+#[rattlefmt::skip]
+const ROWS: [Request; 16] = [
+    Request { kind: Kind::In, sector: 63, r: 16, w: 513, read_only: false, shown: 4 },
+    Request { kind: Kind::In, sector: 64, r: 16, w: 513, read_only: false, shown: 4 },
+    Request { kind: Kind::In, sector: 64, r: 16, w: 1, read_only: false, shown: 0 },
+    Request { kind: Kind::In, sector: 65, r: 16, w: 1, read_only: false, shown: 0 },
+    Request { kind: Kind::In, sector: 0xffff_ffff_ffff_ffff, r: 16, w: 1025, read_only: false, shown: 4 },
+    Request { kind: Kind::Out, sector: 7, r: 528, w: 1, read_only: true, shown: 0 },
+    Request { kind: Kind::GetId, sector: 0, r: 16, w: 21, read_only: false, shown: 20 },
+    Request { kind: Kind::GetId, sector: 0, r: 16, w: 20, read_only: false, shown: 4 },
+    Request { kind: Kind::Flush, sector: 0, r: 16, w: 1, read_only: false, shown: 0 },
+    Request { kind: Kind::Flush, sector: 0, r: 16, w: 2, read_only: false, shown: 1 },
+    Request { kind: Kind::Two, sector: 0, r: 16, w: 1, read_only: false, shown: 0 },
+    Request { kind: Kind::In, sector: 0, r: 15, w: 1, read_only: false, shown: 0 },
+    Request { kind: Kind::Out, sector: 0, r: 15, w: 1, read_only: false, shown: 0 },
+    Request { kind: Kind::Two, sector: 0, r: 15, w: 1, read_only: false, shown: 0 },
+    Request { kind: Kind::Flush, sector: 0, r: 15, w: 1, read_only: false, shown: 0 },
+    Request { kind: Kind::GetId, sector: 0, r: 15, w: 1, read_only: false, shown: 0 },
+];
+
+impl fmt::Display for Request {
+    fn fmt<W: fmt::Write>(&self, f: &mut fmt::Formatter<W>) -> fmt::Result {
+        let Request {
+            kind,
+            sector,
+            r,
+            w,
+            ..
+        } = self;
+        let disk = if self.read_only {
+            ", read-only disk"
+        } else {
+            ""
+        };
+        write!(f, "{kind}, sector {sector}{disk}: {r} r, {w} w")
     }
-    0
 }
 
-fn asked(i: usize) -> Request {
-    let k = 6 * (i % 16);
-    Request {
-        kind: cell(k),
-        sector: cell(k + 1),
-        r: cell(k + 2),
-        w: cell(k + 3),
-        read_only: cell(k + 4),
-        shown: cell(k + 5),
-    }
-}
-
-fn name(rt: &impl Print, q: Request) -> io::Result<()> {
-    say::nth(rt, b"IN|OUT|type 2||FLUSH||||GET_ID|", q.kind)?;
-    say::text(rt, b", sector ")?;
-    say::number(rt, q.sector)?;
-    say::nth(rt, b"|, read-only disk|", q.read_only)?;
-    say::text(rt, b": ")?;
-    say::number(rt, q.r)?;
-    say::text(rt, b" r, ")?;
-    say::number(rt, q.w)?;
-    say::text(rt, b" w: ")
-}
-
+// What was laid is served by a fresh device. Says the answers, the status byte at this place, and the length in the used ring.
 fn serve(
     rt: &impl Print,
-    read_only: usize,
-    mem: &mut Bytes,
-    backing: &mut Bytes,
-    stage: &mut Stage,
+    host: &mut Host,
+    read_only: bool,
+    status: Range<usize>,
 ) -> io::Result<()> {
-    let mut state = [0; hostiledisk::STATE_WORDS];
-    host::set_up(&mut state, read_only, 0);
-    host::run(rt, &mut state, mem, backing, stage, false)
-}
-
-// The status byte at place k, and the length in the used ring.
-fn answer(rt: &impl Print, mem: &Bytes, k: usize) -> io::Result<()> {
-    areas::show(rt, b", status", mem, k, 1)?;
-    say::text(rt, b", len ")?;
-    say::number(rt, wire::get32(mem, 0x3008))
+    host.serve(rt, &mut host::device(read_only, 0))?;
+    let len = wire::get32(&host.mem.0, 0x3008);
+    print!(rt; ", status {}, len {len}", host.mem.hex(status))
 }
 
 // The writable bytes are the w from 0x80005000 on.
-fn row(
-    rt: &impl Print,
-    q: Request,
-    mem: &mut Bytes,
-    backing: &mut Bytes,
-    stage: &mut Stage,
-) -> io::Result<()> {
-    let w = q.w % 4096;
-    guest::joined(mem, q.kind, q.sector, q.r, w);
-    let before = *mem;
-    serve(rt, q.read_only, mem, backing, stage)?;
-    answer(rt, mem, 0x4fff + w)?;
-    data(rt, mem, q.shown)?;
-    areas::changed(rt, mem, &before, 0x5000, 0x5000 + w)?;
-    areas::clear(mem, 0x5000, 0x5000 + w);
-    Ok(())
+fn row(rt: &impl Print, host: &mut Host, q: &Request) -> io::Result<()> {
+    let end = 0x5000 + usize::from(q.w);
+    host.mem.joined(q.kind, q.sector, q.r, usize::from(q.w));
+    let before = host.mem;
+    print!(rt; "{q}: ")?;
+    serve(rt, host, q.read_only, end - 1..end)?;
+    if 0 < q.shown {
+        print!(rt;
+            ", data {}",
+            host.mem.hex(0x5000..0x5000 + usize::from(q.shown))
+        )?;
+    }
+    host.mem.settle(rt, &before, &(0x5000..end))
 }
 
-fn data(rt: &impl Print, mem: &Bytes, n: usize) -> io::Result<()> {
-    if 0 < n {
-        areas::show(rt, b", data", mem, 0x5000, n)?;
+pub fn rows(rt: &impl Print, host: &mut Host) -> io::Result<()> {
+    for q in &ROWS {
+        row(rt, host, q)?;
     }
     Ok(())
 }
 
-pub fn rows(
-    rt: &impl Print,
-    mem: &mut Bytes,
-    backing: &mut Bytes,
-    stage: &mut Stage,
-) -> io::Result<()> {
-    let mut i = 0;
-    while i < 16 {
-        let q = asked(i);
-        name(rt, q)?;
-        row(rt, q, mem, backing, stage)?;
-        i += 1;
-    }
-    Ok(())
-}
-
-pub fn three(
-    rt: &impl Print,
-    mem: &mut Bytes,
-    backing: &mut Bytes,
-    stage: &mut Stage,
-) -> io::Result<()> {
-    guest::v1(mem);
-    let before = *mem;
-    say::text(rt, b"IN, sector 3: 16 r, 512 w, 1 w: ")?;
-    serve(rt, 0, mem, backing, stage)?;
-    answer(rt, mem, 0x6000)?;
-    data(rt, mem, 8)?;
-    areas::changed(rt, mem, &before, 0x5000, 0x6001)?;
-    areas::clear(mem, 0x5000, 0x6001);
-    Ok(())
+pub fn three(rt: &impl Print, host: &mut Host) -> io::Result<()> {
+    host.mem.v1();
+    let before = host.mem;
+    print!(rt; "IN, sector 3: 16 r, 512 w, 1 w: ")?;
+    serve(rt, host, false, 0x6000..0x6001)?;
+    print!(rt; ", data {}", host.mem.hex(0x5000..0x5008))?;
+    host.mem.settle(rt, &before, &(0x5000..0x6001))
 }
 
 // Of each of the six buffers of 512 the first four bytes.
-fn sectors(rt: &impl Print, mem: &Bytes) -> io::Result<()> {
-    say::text(rt, b", data")?;
-    let mut i = 0;
-    while i < 6 {
-        areas::show(rt, b" |", mem, 0x5000 + 0x400 * i, 4)?;
-        i += 1;
+pub fn seven(rt: &impl Print, host: &mut Host) -> io::Result<()> {
+    host.mem.eight(WRITE);
+    let before = host.mem;
+    print!(rt; "IN, sector 0: 16 r and writable 512, 512, 512, 512, 512, 512, 1: ")?;
+    serve(rt, host, false, 0x6800..0x6801)?;
+    print!(rt; ", data")?;
+    for i in 0..6 {
+        let at = 0x5000 + 0x400 * i;
+        print!(rt; " | {}", host.mem.hex(at..at + 4))?;
     }
-    Ok(())
-}
-
-pub fn seven(
-    rt: &impl Print,
-    mem: &mut Bytes,
-    backing: &mut Bytes,
-    stage: &mut Stage,
-) -> io::Result<()> {
-    guest::eight(mem, 2);
-    let before = *mem;
-    say::text(
-        rt,
-        b"IN, sector 0: 16 r and writable 512, 512, 512, 512, 512, 512, 1: ",
-    )?;
-    serve(rt, 0, mem, backing, stage)?;
-    answer(rt, mem, 0x6800)?;
-    sectors(rt, mem)?;
-    areas::changed(rt, mem, &before, 0x5000, 0x6801)?;
-    areas::clear(mem, 0x5000, 0x6801);
-    Ok(())
+    host.mem.settle(rt, &before, &(0x5000..0x6801))
 }

@@ -5,7 +5,7 @@
 #![tactic(auto)]
 
 use crate::guest::Bytes;
-use crate::host::Stage;
+use crate::host::{Host, STAGE_BYTES};
 use std::io;
 
 mod areas;
@@ -31,7 +31,6 @@ fn edges(rt: &impl Print) -> io::Result<()> {
     setup::how_many(rt)?;
     setup::kept(rt)?;
     ranges::one_region(rt)?;
-    ranges::one_region_whole(rt)?;
     ranges::two_regions(rt)?;
     bytes::numbers16(rt)?;
     bytes::numbers32(rt)?;
@@ -41,81 +40,48 @@ fn edges(rt: &impl Print) -> io::Result<()> {
 }
 
 // 01 §6.
-fn rows_01(
-    rt: &impl Print,
-    mem: &mut Bytes,
-    backing: &mut Bytes,
-    stage: &mut Stage,
-) -> io::Result<()> {
-    v1::v1(rt, mem, backing, stage)?;
-    v1::wrap(rt, mem, backing, stage)?;
-    table::rows(rt, mem, backing, stage)?;
-    table::eights(rt, mem, backing, stage)?;
-    longest::chains(rt, mem, backing, stage)?;
-    many::rows(rt, mem, backing, stage)
+fn rows_01(rt: &impl Print, host: &mut Host) -> io::Result<()> {
+    v1::v1(rt, host)?;
+    v1::wrap(rt, host)?;
+    table::rows(rt, host)?;
+    table::eights(rt, host)?;
+    longest::chains(rt, host)?;
+    many::rows(rt, host)
 }
 
 // 03 §6.
-fn rows_03(
-    rt: &impl Print,
-    mem: &mut Bytes,
-    backing: &mut Bytes,
-    stage: &mut Stage,
-    disk: &Bytes,
-) -> io::Result<()> {
-    honest::three(rt, mem, backing, stage)?;
-    honest::rows(rt, mem, backing, stage)?;
-    honest::seven(rt, mem, backing, stage)?;
-    split::refused(rt, mem, backing, stage)?;
-    split::out(rt, mem, backing, stage, disk)
-}
-
-// 03 §7: the honest ones of them by the driver.
-fn rows_driven(
-    rt: &impl Print,
-    mem: &mut Bytes,
-    backing: &mut Bytes,
-    stage: &mut Stage,
-) -> io::Result<()> {
-    driven::rows(rt, mem, backing, stage)?;
-    driven::writes(rt, mem, backing, stage)?;
-    driven::refused(rt, mem, backing, stage)
+fn rows_03(rt: &impl Print, host: &mut Host, disk: &Bytes) -> io::Result<()> {
+    honest::three(rt, host)?;
+    honest::rows(rt, host)?;
+    honest::seven(rt, host)?;
+    split::refused(rt, host)?;
+    split::out(rt, host, disk)
 }
 
 // The C interface, §2.
-fn refused(
-    rt: &impl Print,
-    mem: &mut Bytes,
-    backing: &mut Bytes,
-    stage: &mut Stage,
-) -> io::Result<()> {
-    refusals::counts(rt)?;
-    refusals::regions(rt)?;
+fn refused(rt: &impl Print, host: &mut Host) -> io::Result<()> {
+    refusals::memory(rt)?;
     refusals::disks(rt)?;
     refusals::queues(rt)?;
     refusals::rooms(rt)?;
     longest::lent(rt)?;
-    states::zeros(rt, mem, backing, stage)?;
-    states::enabled(rt, mem, backing, stage)?;
-    states::short(rt, mem, backing, stage)?;
-    states::slices(rt, mem, backing, stage)
+    states::states(rt, host)?;
+    states::slices(rt, host)
 }
 
 fn main(rt: HostRuntime) -> io::Result<()> {
     edges(&rt)?;
-    let mut stage = [0u8; 1048576];
-    let mut mem = [0xeeu8; 65536];
-    let mut backing = [0xeeu8; 65536];
-    host::fill_disk(&mut backing);
-    let disk = backing;
-    rows_01(&rt, &mut mem, &mut backing, &mut stage)?;
-    rows_03(&rt, &mut mem, &mut backing, &mut stage, &disk)?;
-    rows_driven(&rt, &mut mem, &mut backing, &mut stage)?;
-    refused(&rt, &mut mem, &mut backing, &mut stage)?;
-    say::text(
-        &rt,
-        b"Bytes of guest memory that a row wrote where it may not:",
-    )?;
-    areas::count(&rt, &mem, &[0xeeu8; 65536], 0, 65536)?;
-    say::line(&rt)
+    let disk = host::disk();
+    let mut host = Host {
+        mem: Bytes::new(),
+        backing: disk,
+        stage: [0; STAGE_BYTES],
+    };
+    rows_01(&rt, &mut host)?;
+    rows_03(&rt, &mut host, &disk)?;
+    // 03 §7: the honest ones of them by the driver.
+    driven::rows(&rt, &mut host)?;
+    refused(&rt, &mut host)?;
+    let left = host.mem.differ(&Bytes::new(), &(0..65536));
+    println!(rt; "Bytes of guest memory that a row wrote where it may not: {left}")
 }

@@ -1,126 +1,94 @@
 // What set-up refuses, from 20 to 30 and from 42 to 46: a line for each, named by the call and what is wrong.
-use crate::{host, say};
+use crate::host::{self, AVAIL, DESC, STAGE_BYTES, State, USED};
 use std::io;
 
-pub fn told(rt: &impl Print, name: &[u8], answer: usize) -> io::Result<()> {
-    say::text(rt, name)?;
-    say::text(rt, b": ")?;
-    say::number(rt, answer)?;
-    say::line(rt)
+pub fn memory(rt: &impl Print) -> io::Result<()> {
+    let rows: [(&str, &[usize]); 8] = [
+        ("no region", &[]),
+        ("33 regions", &[0; 99]),
+        ("four words", &[4096, 16, 0, 8192]),
+        ("the region of 01 §6", &[0x8000_0000, 65536, 0]),
+        ("length 0", &[0x8000_0000, 0, 0]),
+        ("a byte past the slice", &[0x8000_0000, 65536, 1]),
+        ("up to 2^64", &[0xffff_ffff_ffff_0000, 65536, 0]),
+        ("one address in common", &[4096, 16, 0, 4111, 16, 16]),
+    ];
+    for (name, map) in rows {
+        let mut state = [0; hostiledisk::STATE_WORDS];
+        let answer = hostiledisk::hd_memory(&mut state, map, 65536);
+        println!(rt; "hd_memory, {name}: {answer}")?;
+    }
+    Ok(())
 }
 
-fn memory(rt: &impl Print, name: &[u8], map: &[usize]) -> io::Result<()> {
-    let mut state = [0; hostiledisk::STATE_WORDS];
-    told(rt, name, hostiledisk::hd_memory(&mut state, map, 65536))
-}
-
-pub fn counts(rt: &impl Print) -> io::Result<()> {
-    memory(rt, b"hd_memory, no region", &[])?;
-    memory(rt, b"hd_memory, 33 regions", &[0; 99])?;
-    memory(rt, b"hd_memory, four words", &[4096, 16, 0, 8192])
-}
-
-pub fn regions(rt: &impl Print) -> io::Result<()> {
-    let g = 0x8000_0000;
-    memory(rt, b"hd_memory, the region of 01 \xc2\xa76", &[g, 65536, 0])?;
-    memory(rt, b"hd_memory, length 0", &[g, 0, 0])?;
-    memory(rt, b"hd_memory, a byte past the slice", &[g, 65536, 1])?;
-    let high = 0xffff_ffff_ffff_0000;
-    memory(rt, b"hd_memory, up to 2^64", &[high, 65536, 0])?;
-    let two = [4096, 16, 0, 4111, 16, 16];
-    memory(rt, b"hd_memory, one address in common", &two)
-}
-
-fn disk_name(rt: &impl Print, i: usize) -> io::Result<()> {
-    let names =
-        b"to the last byte|an identity of 19 bytes|an identity of 21 bytes|no sector|2^32 + 1 sectors|\
-          a byte past the backing slice|a sum that would wrap|";
-    say::text(rt, b"hd_disk, ")?;
-    say::nth(rt, names, i)
-}
-
-fn disk(rt: &impl Print, i: usize, start: usize, sectors: usize, id: &[u8]) -> io::Result<()> {
-    let mut state = [0; hostiledisk::STATE_WORDS];
-    host::set_memory(&mut state, 65536);
-    let answer = hostiledisk::hd_disk(&mut state, start, sectors, 0, id, 65536);
-    disk_name(rt, i)?;
-    told(rt, b"", answer)
-}
-
+// Where the disk begins, its sectors, and its identity, on a backing slice of 65,536 bytes.
 pub fn disks(rt: &impl Print) -> io::Result<()> {
-    let id = [0; 20];
-    disk(rt, 0, 65024, 1, &id)?;
-    disk(rt, 1, 65025, 0, &[0; 19])?;
-    disk(rt, 2, 65025, 0, &[0; 21])?;
-    disk(rt, 3, 65025, 0, &id)?;
-    disk(rt, 4, 0, 0x1_0000_0001, &id)?;
-    disk(rt, 5, 65025, 1, &id)?;
-    disk(rt, 6, 0xffff_ffff_ffff_ff00, 1, &id)
+    let id = [0; 21];
+    let rows = [
+        ("to the last byte", 65024, 1, &id[..20]),
+        ("an identity of 19 bytes", 65025, 0, &id[..19]),
+        ("an identity of 21 bytes", 65025, 0, &id[..21]),
+        ("no sector", 65025, 0, &id[..20]),
+        ("2^32 + 1 sectors", 0, 0x1_0000_0001, &id[..20]),
+        ("a byte past the backing slice", 65025, 1, &id[..20]),
+        ("a sum that would wrap", 0xffff_ffff_ffff_ff00, 1, &id[..20]),
+    ];
+    for (name, start, sectors, id) in rows {
+        let mut state = [0; hostiledisk::STATE_WORDS];
+        host::set_memory(&mut state, 65536);
+        let answer = hostiledisk::hd_disk(&mut state, start, sectors, 0, id, 65536);
+        println!(rt; "hd_disk, {name}: {answer}")?;
+    }
+    Ok(())
 }
 
-fn queue_name(rt: &impl Print, i: usize) -> io::Result<()> {
-    let names =
-        b"the queue of 01 \xc2\xa76|size 0|size 3|size 2048|descriptors misaligned|available ring misaligned|\
-          used ring misaligned|descriptors to the last byte|descriptors past it|\
-          used ring behind available ring|used ring on its end|used ring behind descriptors|\
-          used ring on their end|";
-    say::text(rt, b"hd_enable, ")?;
-    say::nth(rt, names, i)
-}
-
-// The areas of a queue on the memory of 01 §6.
-fn queue(
-    rt: &impl Print,
-    i: usize,
-    size: usize,
-    desc: usize,
-    avail: usize,
-    used: usize,
-) -> io::Result<()> {
+// A device with memory and disk of 01 §6.
+fn described() -> State {
     let mut state = [0; hostiledisk::STATE_WORDS];
     host::set_memory(&mut state, 65536);
-    host::set_disk(&mut state, 0, 65536);
-    let answer = hostiledisk::hd_enable(&mut state, size, desc, avail, used, 16, 1048576);
-    queue_name(rt, i)?;
-    told(rt, b"", answer)
+    host::set_disk(&mut state, false, 65536);
+    state
 }
+
+// Size of a queue, descriptors, available ring, used ring.
+#[rattlefmt::skip]
+const QUEUES: [(&str, usize, usize, usize, usize); 13] = [
+    ("the queue of 01 §6", 8, DESC, AVAIL, USED),
+    ("size 0", 0, DESC, AVAIL, USED),
+    ("size 3", 3, DESC, AVAIL, USED),
+    ("size 2048", 2048, DESC, AVAIL, USED),
+    ("descriptors misaligned", 8, 0x8000_1008, AVAIL, USED),
+    ("available ring misaligned", 8, DESC, 0x8000_2001, USED),
+    ("used ring misaligned", 8, DESC, AVAIL, 0x8000_3002),
+    ("descriptors to the last byte", 8, 0x8000_ff80, AVAIL, USED),
+    ("descriptors past it", 8, 0x8000_ff90, AVAIL, USED),
+    ("used ring behind available ring", 8, DESC, AVAIL, 0x8000_2018),
+    ("used ring on its end", 8, DESC, AVAIL, 0x8000_2014),
+    ("used ring behind descriptors", 8, DESC, AVAIL, 0x8000_1080),
+    ("used ring on their end", 8, DESC, AVAIL, 0x8000_107c),
+];
 
 pub fn queues(rt: &impl Print) -> io::Result<()> {
-    let d = 0x8000_1000;
-    let a = 0x8000_2000;
-    let u = 0x8000_3000;
-    queue(rt, 0, 8, d, a, u)?;
-    queue(rt, 1, 0, d, a, u)?;
-    queue(rt, 2, 3, d, a, u)?;
-    queue(rt, 3, 2048, d, a, u)?;
-    queue(rt, 4, 8, 0x8000_1008, a, u)?;
-    queue(rt, 5, 8, d, 0x8000_2001, u)?;
-    queue(rt, 6, 8, d, a, 0x8000_3002)?;
-    queue(rt, 7, 8, 0x8000_ff80, a, u)?;
-    queue(rt, 8, 8, 0x8000_ff90, a, u)?;
-    queue(rt, 9, 8, d, a, 0x8000_2018)?;
-    queue(rt, 10, 8, d, a, 0x8000_2014)?;
-    queue(rt, 11, 8, d, a, 0x8000_1080)?;
-    queue(rt, 12, 8, d, a, 0x8000_107c)
+    for (name, size, desc, avail, used) in QUEUES {
+        let mut state = described();
+        let answer = hostiledisk::hd_enable(&mut state, size, desc, avail, used, 16, STAGE_BYTES);
+        println!(rt; "hd_enable, {name}: {answer}")?;
+    }
+    Ok(())
 }
 
-fn room(rt: &impl Print, i: usize, chain: usize, stage: usize, start: usize) -> io::Result<()> {
-    let mut state = [0; hostiledisk::STATE_WORDS];
-    host::set_memory(&mut state, 65536);
-    host::set_disk(&mut state, 0, 65536);
-    let answer = host::set_queue(&mut state, chain, stage, start);
-    say::text(rt, b"hd_enable_at, ")?;
-    say::nth(
-        rt,
-        b"15 words of chain memory|a byte too few to stage|start 65536|start 65535|",
-        i,
-    )?;
-    told(rt, b"", answer)
-}
-
+// Words of chain memory, bytes of staging memory, and where the counters start.
 pub fn rooms(rt: &impl Print) -> io::Result<()> {
-    room(rt, 0, 15, 0, 65536)?;
-    room(rt, 1, 16, 1048575, 65536)?;
-    room(rt, 2, 16, 1048576, 65536)?;
-    room(rt, 3, 16, 1048576, 65535)
+    let rows = [
+        ("15 words of chain memory", 15, 0, 65536),
+        ("a byte too few to stage", 16, STAGE_BYTES - 1, 65536),
+        ("start 65536", 16, STAGE_BYTES, 65536),
+        ("start 65535", 16, STAGE_BYTES, 65535),
+    ];
+    for (name, chain, stage, start) in rows {
+        let mut state = described();
+        let answer = host::set_queue(&mut state, chain, stage, start);
+        println!(rt; "hd_enable_at, {name}: {answer}")?;
+    }
+    Ok(())
 }

@@ -1,75 +1,30 @@
-// Printing: text, numbers and bytes to standard output. A failed write ends what is being told.
-use std::io;
-
-pub fn text(rt: &impl Print, b: &[u8]) -> io::Result<()> {
-    rt.write_all(b)
-}
-
-pub fn number(rt: &impl Print, n: usize) -> io::Result<()> {
-    print!(rt; "{n}")
-}
+// How bytes and words are printed.
+use std::fmt;
 
 // Each byte as two digits, with a space between: 04 03 02 01
-pub fn hex(rt: &impl Print, b: &[u8]) -> io::Result<()> {
-    let mut i = 0;
-    while i < b.len() {
-        if 0 < i {
-            text(rt, b" ")?;
+#[derive(Clone, Copy)]
+pub struct Hex<'a>(pub &'a [u8]);
+
+impl fmt::Display for Hex<'_> {
+    fn fmt<W: fmt::Write>(&self, f: &mut fmt::Formatter<W>) -> fmt::Result {
+        let mut gap = "";
+        for byte in self.0 {
+            write!(f, "{gap}{byte:02x}")?;
+            gap = " ";
         }
-        digits(rt, b[i])?;
-        i += 1;
+        Ok(())
     }
-    Ok(())
 }
 
-fn digits(rt: &impl Print, x: u8) -> io::Result<()> {
-    print!(rt; "{x:02x}")
-}
+// Each word after a space.
+#[derive(Clone, Copy)]
+pub struct Words<'a>(pub &'a [usize]);
 
-pub fn line(rt: &impl Print) -> io::Result<()> {
-    text(rt, b"\n")
-}
-
-// Each number after a space.
-pub fn numbers(rt: &impl Print, n: &[usize]) -> io::Result<()> {
-    let mut i = 0;
-    while i < n.len() {
-        text(rt, b" ")?;
-        number(rt, n[i])?;
-        i += 1;
+impl fmt::Display for Words<'_> {
+    fn fmt<W: fmt::Write>(&self, f: &mut fmt::Formatter<W>) -> fmt::Result {
+        for word in self.0 {
+            write!(f, " {word}")?;
+        }
+        Ok(())
     }
-    Ok(())
-}
-
-// n bytes from place k on.
-pub fn part(rt: &impl Print, b: &[u8], k: usize, n: usize) -> io::Result<()> {
-    if b.len() < k {
-        return Ok(());
-    }
-    if b.len() - k < n {
-        return Ok(());
-    }
-    let e = k + n;
-    hex(rt, &b[k..e])
-}
-
-// The name of this number, of names that end in a bar.
-pub fn nth(rt: &impl Print, names: &[u8], i: usize) -> io::Result<()> {
-    let mut at = 0;
-    let mut k = 0;
-    while k < names.len() {
-        at = letter(rt, names[k], at, i)?;
-        k += 1;
-    }
-    Ok(())
-}
-
-fn letter(rt: &impl Print, c: u8, at: usize, i: usize) -> io::Result<usize> {
-    if c == b'|' {
-        return Ok(std::num::wrapping_add_usize(at, 1));
-    }
-    if at == i {
-        text(rt, &[c])?;
-    }
-    Ok(at)
 }

@@ -1,5 +1,0 @@
-use Rattle.std.proofs.Common.{refl}
-use Rattle.vectors.proofs.host.run.Goals as goal
-
-pub loop-i-init : goal.loop-i-init
-loop-i-init g c = (refl, refl)
