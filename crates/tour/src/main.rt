@@ -6,135 +6,113 @@ use driver::{Attached, Driver};
 use std::io;
 use trip::{NotDone, Trip};
 
-type Bytes = [u8; 65536];
-
-type Stage = [u8; 1048576];
-
 const MAP: [usize; 3] = [0x8000_0000, 65536, 0];
 
-fn number(rt: &impl Print, n: usize) -> io::Result<()> {
-    print!(rt; "{n}")
+// Where descriptors, available ring and used ring lie, and where both counters start.
+const DESC: usize = 0x8000_1000;
+
+const AVAIL: usize = 0x8000_2000;
+
+const USED: usize = 0x8000_3000;
+
+const START: usize = 65535;
+
+const STAGE_BYTES: usize = 1048576;
+
+// Each byte that is written.
+const WRITTEN: u8 = 0x5a;
+
+// What the host lends to the device.
+#[derive(Drop)]
+struct Host {
+    state: [usize; hostiledisk::STATE_WORDS],
+    mem: [u8; 65536],
+    backing: [u8; 65536],
+    chain: [usize; 16],
+    stage: [u8; STAGE_BYTES],
 }
 
-fn text(rt: &impl Print, b: &[u8]) -> io::Result<()> {
-    rt.write_all(b)
-}
+impl Host {
+    // The device of 03 §6, from byte 1,024 of its backing slice on. Says what each call answers.
+    fn set_up(&mut self, rt: &impl Print) -> io::Result<()> {
+        let id = b"SCRATCH-0007\0\0\0\0\0\0\0\0";
+        let state = &mut self.state;
+        let memory = hostiledisk::hd_memory(state, &MAP, 65536);
+        let disk = hostiledisk::hd_disk(state, 1024, 64, 0, id, 65536);
+        let queue = hostiledisk::hd_enable_at(state, 8, DESC, AVAIL, USED, 16, STAGE_BYTES, START);
+        println!(rt; "set-up: {memory} {disk} {queue}")
+    }
 
-// The device of 03 §6, from byte 1,024 of its backing slice on.
-fn set_up(rt: &impl Print, state: &mut [usize]) -> io::Result<()> {
-    let id = b"SCRATCH-0007\0\0\0\0\0\0\0\0";
-    text(rt, b"set-up: ")?;
-    number(rt, hostiledisk::hd_memory(state, &MAP, 65536))?;
-    text(rt, b" ")?;
-    number(rt, hostiledisk::hd_disk(state, 1024, 64, 0, id, 65536))?;
-    text(rt, b" ")?;
-    number(
-        rt,
-        hostiledisk::hd_enable_at(
+    // Sector 5, the header cut after its tenth byte; read back into buffers of 100, 412 and 1 bytes. Each request is served by at most 64 steps.
+    fn round(&mut self, d: Driver, out: &mut [u8; 512]) -> Result<Trip, NotDone> {
+        let Host {
             state,
-            8,
-            0x8000_1000,
-            0x8000_2000,
-            0x8000_3000,
+            mem,
+            backing,
+            chain,
+            stage,
+        } = self;
+        let mut own = [0; 8];
+        let mut spots = [0; 24];
+        let mut nums = [0; 8];
+        let mut message = [WRITTEN; 528];
+        let mut header = [0; 16];
+        let bufs = [0x8000_4000, 10, 0x8000_4100, 518, 0x8000_6000, 1];
+        let bufs2 = [
+            0x8000_4000,
             16,
-            1048576,
-            65535,
-        ),
-    )?;
-    text(rt, b"\n")
-}
-
-// How many bytes of out are 0x5a, as all that were written are.
-fn came_back(out: &[u8; 512]) -> usize {
-    let mut n = 0;
-    let mut i = 0;
-    while i < 512 {
-        if out[i] == 0x5a {
-            n = std::num::wrapping_add_usize(n, 1);
-        }
-        i += 1;
+            0x8000_5000,
+            100,
+            0x8000_5800,
+            412,
+            0x8000_6000,
+            1,
+        ];
+        trip::round_trip::round_trip(
+            state,
+            mem,
+            backing,
+            chain,
+            stage,
+            64,
+            d,
+            &mut own,
+            &MAP,
+            5,
+            &mut message,
+            &bufs,
+            2,
+            &mut header,
+            &bufs2,
+            1,
+            out,
+            &mut spots,
+            &mut nums,
+        )
     }
-    n
-}
-
-fn tell(rt: &impl Print, t: Result<Trip, NotDone>, out: &[u8; 512]) -> io::Result<()> {
-    match t {
-        Err(e) => {
-            text(rt, b"failed: ")?;
-            number(rt, e.number())?;
-        }
-        Ok(both) => {
-            text(rt, b"written: status ")?;
-            number(rt, usize::from(both.write))?;
-            text(rt, b"; read: status ")?;
-            number(rt, usize::from(both.read))?;
-            text(rt, b"; bytes that came back: ")?;
-            number(rt, came_back(out))?;
-        }
-    }
-    text(rt, b"\n")
-}
-
-// Sector 5, the header cut after its tenth byte; read back into buffers of 100, 412 and 1 bytes.
-fn round(
-    d: Driver,
-    state: &mut [usize],
-    mem: &mut Bytes,
-    backing: &mut Bytes,
-    stage: &mut Stage,
-    out: &mut [u8; 512],
-) -> Result<Trip, NotDone> {
-    let mut chain = [0; 16];
-    let mut own = [0; 8];
-    let mut spots = [0; 24];
-    let mut nums = [0; 8];
-    let mut message = [0x5au8; 528];
-    let mut header = [0u8; 16];
-    let bufs = [0x8000_4000, 10, 0x8000_4100, 518, 0x8000_6000, 1];
-    let bufs2 = [
-        0x8000_4000,
-        16,
-        0x8000_5000,
-        100,
-        0x8000_5800,
-        412,
-        0x8000_6000,
-        1,
-    ];
-    trip::round_trip::round_trip(
-        state,
-        mem,
-        backing,
-        &mut chain,
-        stage,
-        64,
-        d,
-        &mut own,
-        &MAP,
-        5,
-        &mut message,
-        &bufs,
-        2,
-        &mut header,
-        &bufs2,
-        1,
-        out,
-        &mut spots,
-        &mut nums,
-    )
 }
 
 fn main(rt: HostRuntime) -> io::Result<()> {
-    let mut state = [0; hostiledisk::STATE_WORDS];
-    let mut mem = [0u8; 65536];
-    let mut backing = [0u8; 65536];
-    let mut stage = [0u8; 1048576];
-    let mut out = [0u8; 512];
-    set_up(&rt, &mut state)?;
-    let a = driver::laying::attach(&MAP, 65536, 8, 0x8000_1000, 0x8000_2000, 0x8000_3000, 65535);
-    let Attached::Ready(d) = a else {
+    let mut host = Host {
+        state: [0; hostiledisk::STATE_WORDS],
+        mem: [0; 65536],
+        backing: [0; 65536],
+        chain: [0; 16],
+        stage: [0; STAGE_BYTES],
+    };
+    host.set_up(&rt)?;
+    let Attached::Ready(d) = driver::laying::attach(&MAP, 65536, 8, DESC, AVAIL, USED, START) else {
         return Ok(());
     };
-    let t = round(d, &mut state, &mut mem, &mut backing, &mut stage, &mut out);
-    tell(&rt, t, &out)
+    let mut out = [0; 512];
+    match host.round(d, &mut out) {
+        Err(e) => println!(rt; "failed: {}", e.number()),
+        Ok(both) => {
+            let (write, read) = (both.write, both.read);
+            let back = out.iter().filter(|b| **b == WRITTEN).count();
+            println!(rt;
+                "written: status {write}; read: status {read}; bytes that came back: {back}"
+            )
+        }
+    }
 }
