@@ -8,6 +8,7 @@ ghost use Rattle.model.specs.Memory.{regions, sound};
 ghost use Rattle.model.specs.Ring.{polled, headed, plus_one, size_max};
 ghost use Rattle.model.specs.Chain.{desc_at, tested, described, descs_after, keeps};
 ghost use Rattle.model.specs.Step.{code_after};
+ghost use Rattle.device.specs.Outcome.{number};
 
 use model::{Disk, Linked, Phase, Queue, Walk};
 
@@ -22,6 +23,37 @@ pub struct Config {
     pub id1: usize,
     pub id2: usize,
     pub m: usize,
+}
+
+// What a step answers.
+#[derive(Clone, Copy)]
+pub enum Outcome {
+    Idle = 0,
+    WentOn = 1,
+    Answered = 2,
+    Broken = 3,
+    Refused = 4,
+}
+
+impl Outcome {
+    // The number that C is answered.
+    pub fn number(self) -> usize
+        ensures { result ≡ number self }
+    {
+        self as usize
+    }
+
+    // A step that publishes nothing answers by the phase that comes next.
+    #[tactic(auto, unfolding(model::specs::Step::code_after))]
+    pub fn after(p: Phase) -> Outcome
+        ensures { number result ≡ code_after p }
+    {
+        match p {
+            Phase::Poll => Outcome::Idle,
+            Phase::Broken(..) => Outcome::Broken,
+            _ => Outcome::WentOn,
+        }
+    }
 }
 
 // S1: idx of the available ring is fetched, and nothing else.
@@ -79,19 +111,4 @@ pub fn publish(queue: Queue, answered: usize, mem: &mut [u8])
     ensures { mem.new ≡ put mem.old (queue.used + 2) (bytes 2 (plus_one answered)) }
 {
     ring::used_idx(mem, queue.used, ring::one_more(answered));
-}
-
-pub fn code_after(p: Phase) -> usize
-    ensures { result ≡ code_after p }
-{
-    match p {
-        Phase::Poll => 0,
-        Phase::Entry => 1,
-        Phase::Chain(_, _) => 1,
-        Phase::Header(_, _, _) => 1,
-        Phase::Payload(_, _, _, _) => 1,
-        Phase::Answer(_, _, _) => 1,
-        Phase::Publish(_, _) => 1,
-        Phase::Broken(_, _, _, _) => 3,
-    }
 }

@@ -1,29 +1,37 @@
 // A step of each phase, on words that are an enabled queue's but for the phase. Each function loads the words of its own
-// phase alone, tests them, does the step's work and saves what it changes; words that steps don't make are refused with 4.
+// phase alone, tests them, does the step's work and saves what it changes; words that steps don't make are refused.
 // All are lent every slice, though most use few: so each has the contract of `hd_step`, which says of each slice what becomes of it.
 // The slices stay parameters: each function's `&` or `&mut` shows which of them its phase may write, and one struct would lend all to write.
 ghost use Rattle.std.specs.Prelude.{◌≡◌, ◌≤◌, length};
 ghost use Rattle.model.specs.Step.{code_after};
+ghost use Rattle.device.specs.Outcome.{number};
 ghost use Rattle.words.specs.Layout.{state_words, kept};
 ghost use Rattle.hostiledisk.specs.Calls.{hd_step, Framed, StepIs};
 
+use device::Outcome;
 use model::Phase;
 use words::{State, at};
 
-// A step that publishes nothing: the counters stay, and the answer goes by the phase.
-fn finish(state: &mut [usize], p: Phase) -> usize
+// A step that publishes nothing: the counters stay, and the answer goes by the phase. (The length as a clause: see words::save.)
+fn finish(state: &mut [usize], p: Phase) -> Outcome
     requires { state_words ≤ length state.old }
-    ensures value { result ≡ code_after p }
+    ensures value { number result ≡ code_after p }
     ensures state_after { state.new ≡ kept state.old p }
 {
     words::save_phase(state, p);
-    device::code_after(p)
+    Outcome::after(p)
 }
 
 // S1
-pub fn poll(state: &mut [usize], mem: &[u8], backing: &[u8], chain: &[usize], stage: &[u8]) -> usize
+pub fn poll(
+    state: &mut [usize],
+    mem: &[u8],
+    backing: &[u8],
+    chain: &[usize],
+    stage: &[u8],
+) -> Outcome
     requires { Framed state.old 1 (length mem.now) (length backing.now) (length chain.now) (length stage.now) }
-    ensures { StepIs (hd_step state.old mem.now backing.now chain.now stage.now) result state.new mem.now backing.now chain.now stage.now }
+    ensures { StepIs (hd_step state.old mem.now backing.now chain.now stage.now) (number result) state.new mem.now backing.now chain.now stage.now }
 {
     let view = State { words: state };
     let p = device::poll(view.queue(), view.words[at::TAKEN], mem);
@@ -37,15 +45,15 @@ pub fn entry(
     backing: &[u8],
     chain: &[usize],
     stage: &[u8],
-) -> usize
+) -> Outcome
     requires { Framed state.old 2 (length mem.now) (length backing.now) (length chain.now) (length stage.now) }
-    ensures { StepIs (hd_step state.old mem.now backing.now chain.now stage.now) result state.new mem.now backing.now chain.now stage.now }
+    ensures { StepIs (hd_step state.old mem.now backing.now chain.now stage.now) (number result) state.new mem.now backing.now chain.now stage.now }
 {
     let view = State { words: state };
     let p = device::entry(view.queue(), view.words[at::TAKEN], mem);
     if let Phase::Chain(k, head) = p {
         words::save_chain(state, k, head);
-        return 1;
+        return Outcome::WentOn;
     }
     finish(state, p)
 }
@@ -57,15 +65,15 @@ pub fn descriptor(
     backing: &[u8],
     chain: &mut [usize],
     stage: &[u8],
-) -> usize
+) -> Outcome
     requires { Framed state.old 3 (length mem.now) (length backing.now) (length chain.old) (length stage.now) }
-    ensures { StepIs (hd_step state.old mem.now backing.now chain.old stage.now) result state.new mem.now backing.now chain.new stage.now }
+    ensures { StepIs (hd_step state.old mem.now backing.now chain.old stage.now) (number result) state.new mem.now backing.now chain.new stage.now }
 {
     let view = State { words: state };
     let k = view.walk();
     let cur = view.words[at::A];
     if !sane::chain_sane(view.words[at::SIZE], k, cur) {
-        return 4;
+        return Outcome::Refused;
     }
     let n = view.words[at::REGIONS];
     let end = at::MAP + 3 * n;
@@ -82,7 +90,7 @@ pub fn descriptor(
     let p = x.phase;
     if let Phase::Chain(more, next) = p {
         words::save_chain(state, more, next);
-        return 1;
+        return Outcome::WentOn;
     }
     state[at::DESCS] = x.descs;
     finish(state, p)
@@ -95,19 +103,19 @@ pub fn header(
     backing: &[u8],
     chain: &[usize],
     stage: &mut [u8],
-) -> usize
+) -> Outcome
     requires { Framed state.old 4 (length mem.now) (length backing.now) (length chain.now) (length stage.old) }
-    ensures { StepIs (hd_step state.old mem.now backing.now chain.now stage.old) result state.new mem.now backing.now chain.now stage.new }
+    ensures { StepIs (hd_step state.old mem.now backing.now chain.now stage.old) (number result) state.new mem.now backing.now chain.now stage.new }
 {
     let view = State { words: state };
     let k = view.walk();
     let at = view.place();
     let got = view.words[at::D];
     if !sane::header_sane(view.words[at::SIZE], k, at, got) {
-        return 4;
+        return Outcome::Refused;
     }
     if !sane::place_ok(view.words[at::MEM_LEN], chain, at) {
-        return 4;
+        return Outcome::Refused;
     }
     let p = device::gather::header(view.disk(), k, at, got, chain, mem, stage);
     finish(state, p)
@@ -120,9 +128,9 @@ pub fn payload(
     backing: &mut [u8],
     chain: &[usize],
     stage: &mut [u8],
-) -> usize
+) -> Outcome
     requires { Framed state.old 5 (length mem.now) (length backing.old) (length chain.now) (length stage.old) }
-    ensures { StepIs (hd_step state.old mem.now backing.old chain.now stage.old) result state.new mem.now backing.new chain.now stage.new }
+    ensures { StepIs (hd_step state.old mem.now backing.old chain.now stage.old) (number result) state.new mem.now backing.new chain.now stage.new }
 {
     let view = State { words: state };
     let k = view.walk();
@@ -137,15 +145,15 @@ pub fn payload(
         sector,
         got,
     ) {
-        return 4;
+        return Outcome::Refused;
     }
     if !sane::payload_ready(view.words[at::MEM_LEN], chain, k, at, got) {
-        return 4;
+        return Outcome::Refused;
     }
     let p = device::gather::payload(view.disk(), k, at, sector, got, chain, mem, stage, backing);
     if let Phase::Payload(same, next, to, more) = p {
         words::save_payload(state, same, next, to, more);
-        return 1;
+        return Outcome::WentOn;
     }
     finish(state, p)
 }
@@ -157,22 +165,22 @@ pub fn answer(
     backing: &[u8],
     chain: &[usize],
     stage: &[u8],
-) -> usize
+) -> Outcome
     requires { Framed state.old 6 (length mem.old) (length backing.now) (length chain.now) (length stage.now) }
-    ensures { StepIs (hd_step state.old mem.old backing.now chain.now stage.now) result state.new mem.new backing.now chain.now stage.now }
+    ensures { StepIs (hd_step state.old mem.old backing.now chain.now stage.now) (number result) state.new mem.new backing.now chain.now stage.now }
 {
     let view = State { words: state };
     if 5 < view.words[at::A] {
-        return 4;
+        return Outcome::Refused;
     }
     let k = view.walk();
     let job = words::job_of(view.words[at::A], view.words[at::C]);
     let got = view.words[at::D];
     if !sane::answer_sane(view.words[at::SIZE], view.words[at::SECTORS], k, job, got) {
-        return 4;
+        return Outcome::Refused;
     }
     if !sane::answer_ready(view.words[at::MEM_LEN], chain, k) {
-        return 4;
+        return Outcome::Refused;
     }
     answer::reply(
         view.queue(),
@@ -188,7 +196,7 @@ pub fn answer(
         mem,
     );
     words::save_phase(state, Phase::Publish(k, got));
-    1
+    Outcome::WentOn
 }
 
 // S7
@@ -198,15 +206,15 @@ pub fn publish(
     backing: &[u8],
     chain: &[usize],
     stage: &[u8],
-) -> usize
+) -> Outcome
     requires { Framed state.old 7 (length mem.old) (length backing.now) (length chain.now) (length stage.now) }
-    ensures { StepIs (hd_step state.old mem.old backing.now chain.now stage.now) result state.new mem.new backing.now chain.now stage.now }
+    ensures { StepIs (hd_step state.old mem.old backing.now chain.now stage.now) (number result) state.new mem.new backing.now chain.now stage.now }
 {
     let view = State { words: state };
     let k = view.walk();
     let got = view.words[at::D];
     if !sane::publish_sane(view.words[at::SIZE], k, got) {
-        return 4;
+        return Outcome::Refused;
     }
     let taken = view.words[at::TAKEN];
     let answered = view.words[at::ANSWERED];
@@ -219,5 +227,5 @@ pub fn publish(
         descs,
         Phase::Poll,
     );
-    2
+    Outcome::Answered
 }

@@ -181,19 +181,5 @@ pub fn hd_step(
 ) -> usize
     ensures { StepIs (hd_step state.old mem.old backing.old chain.old stage.old) result state.new mem.new backing.new chain.new stage.new }
 {
-    if state.len() < STATE_WORDS {
-        return 4;
-    }
-    let view = State { words: state };
-    if !view.framed() {
-        return 4;
-    }
-    let tag = view.words[at::TAG];
-    if 8 <= tag {
-        return stepping::broken(view);
-    }
-    if !stepping::long_enough(view, mem.len(), backing.len(), chain.len(), stage.len()) {
-        return 4;
-    }
-    stepping::go(state, tag, mem, backing, chain, stage)
+    stepping::step(state, mem, backing, chain, stage).number()
 }

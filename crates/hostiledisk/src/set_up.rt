@@ -1,4 +1,5 @@
-// What set-up writes into the lent words, once nothing is left to refuse.
+// What set-up writes into the lent words, once nothing is left to refuse. The length stands in the clauses here as in words::save,
+// and for the reason given there.
 ghost use Rattle.std.specs.Prelude.{◌≡◌, true, ◌∷◌, ◌+◌, ◌*◌, ◌/◌, ◌≤◌, length};
 ghost use Rattle.model.specs.Bytes.{put};
 ghost use Rattle.model.specs.Memory.{regions, regions_max};
@@ -20,16 +21,6 @@ pub fn note_memory(state: &mut [usize], map: &[usize], m: usize)
     regions::keep(state, at::MAP, map);
 }
 
-#[tactic(auto, using(model::proofs::Tests::tests))]
-fn flag(n: usize) -> usize
-    ensures { result ≡ flag n }
-{
-    if n == 0 {
-        return 0;
-    }
-    1
-}
-
 pub fn note_disk(
     state: &mut [usize],
     start: usize,
@@ -45,7 +36,7 @@ pub fn note_disk(
     state[at::LEVEL] = 2;
     state[at::START] = start;
     state[at::SECTORS] = sectors;
-    state[at::RO] = flag(ro);
+    state[at::RO] = usize::from(ro != 0);
     state[at::BACKING_LEN] = backing;
     state[at::ID0] = wire::get64(id, 0);
     state[at::ID1] = wire::get64(id, 8);

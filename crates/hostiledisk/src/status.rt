@@ -32,6 +32,7 @@ fn at_hand(step: usize, k: Walk, bytes: usize) -> Seen
     }
 }
 
+// No From: that a payload's bytes and its header's 16 fit a word, a sane phase alone says.
 #[tactic(auto, unfolding(crate::specs::Calls::seen_of))]
 fn seen_of(q: usize, sectors: usize, p: Phase) -> Seen
     requires { sane q sectors p ≡ true }
@@ -61,9 +62,10 @@ fn seen_of(q: usize, sectors: usize, p: Phase) -> Seen
     }
 }
 
-fn show(out: &mut [usize], enabled: usize, taken: usize, answered: usize, x: Seen)
+// Eight words, and two more where there is room for both (DEV-12).
+fn show(out: &mut [usize], enabled: usize, taken: usize, answered: usize, descs: usize, x: Seen)
     requires { 8 ≤ length out.old }
-    ensures { out.new ≡ put out.old 0 (shown enabled taken answered x) }
+    ensures { out.new ≡ put out.old 0 (shown enabled taken answered x ++ pick (leb 10 (length out.old)) (shown_more descs x) []) }
 {
     out[0] = enabled;
     out[1] = x.reason;
@@ -73,14 +75,6 @@ fn show(out: &mut [usize], enabled: usize, taken: usize, answered: usize, x: See
     out[5] = x.head;
     out[6] = x.count;
     out[7] = x.bytes;
-}
-
-// Two words more, where there is room for both (DEV-12).
-fn show_all(out: &mut [usize], enabled: usize, taken: usize, answered: usize, descs: usize, x: Seen)
-    requires { 8 ≤ length out.old }
-    ensures { out.new ≡ put out.old 0 (shown enabled taken answered x ++ pick (leb 10 (length out.old)) (shown_more descs x) []) }
-{
-    show(out, enabled, taken, answered, x);
     if 10 <= out.len() {
         out[8] = x.at;
         out[9] = descs;
@@ -95,7 +89,7 @@ pub fn write(state: State, out: &mut [usize])
     if state.level() == 3 {
         let p = Phase::from(state.row());
         let x = seen_of(state.words[at::SIZE], state.words[at::SECTORS], p);
-        show_all(
+        show(
             out,
             1,
             state.words[at::TAKEN],
@@ -105,5 +99,5 @@ pub fn write(state: State, out: &mut [usize])
         );
         return;
     }
-    show_all(out, 0, 0, 0, 0, Seen::default());
+    show(out, 0, 0, 0, 0, Seen::default());
 }

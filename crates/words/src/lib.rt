@@ -42,6 +42,7 @@ fn job_numbers(job: Job) -> (usize, usize)
     }
 }
 
+// No From: Job is another crate's type, and so is a pair.
 #[tactic(auto, unfolding(crate::specs::Layout::job_of))]
 pub fn job_of(tag: usize, s: usize) -> Job
     ensures { result ≡ job_of tag s }

@@ -2,15 +2,8 @@ use lib.ListN.{length-set}
 use mathlib.Core.Path.{◌∙◌}
 use Rattle.model.proofs.Lists.{put-cons, put-nil}
 use native.Mathlib.Omega.{arith}
-use lib.ListN.{length-set}
 use Rattle.hostiledisk.specs.Calls.{memory_set}
 use Rattle.hostiledisk.proofs.set_up.note_memory.Goals as goal
-
-pub bounds-state-1 : goal.bounds-state-1
-bounds-state-1 c = simp length-set (omega arith)
-
-pub bounds-state-2 : goal.bounds-state-2
-bounds-state-2 c = simp length-set (omega arith)
 
 pub keep-requires : goal.keep-requires
 keep-requires c = simp length-set (omega arith)

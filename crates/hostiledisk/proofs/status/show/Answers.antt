@@ -1,27 +1,14 @@
-use Rattle.hostiledisk.specs.Calls.{shown}
+use Prim.Native.Nat.{◌≤◌, ◌<◌}
+use lib.ListN.{length, length-set}
+use borrow.Author.Tests.{le-leb, lt-leb}
 use Rattle.model.proofs.Lists.{put-cons, put-nil}
-use native.Mathlib.Omega.{arith}
-use lib.ListN.{length-set}
+use Rattle.hostiledisk.specs.Calls.{shown}
 use Rattle.hostiledisk.proofs.status.show.Goals as goal
 
-pub bounds-out-1 : goal.bounds-out-1
-bounds-out-1 c = simp length-set (omega arith)
-
-pub bounds-out-2 : goal.bounds-out-2
-bounds-out-2 c = simp length-set (omega arith)
-
-pub bounds-out-3 : goal.bounds-out-3
-bounds-out-3 c = simp length-set (omega arith)
-
-pub bounds-out-4 : goal.bounds-out-4
-bounds-out-4 c = simp length-set (omega arith)
-
-pub bounds-out-5 : goal.bounds-out-5
-bounds-out-5 c = simp length-set (omega arith)
-
-pub bounds-out-6 : goal.bounds-out-6
-bounds-out-6 c = simp length-set (omega arith)
-
-pub returns : goal.returns
+pub returns-then-out-ge10 : goal.returns-then-out-ge10
 unfolding shown
-returns c = simp (put-cons, put-nil)
+returns-then-out-ge10 c = let h : 10 ≤ length c.args.out.now = simp length-set at c.if-out-ge10.true in rw (le-leb 10 _ h) (simp (put-cons, put-nil))
+
+pub returns-else-out-ge10 : goal.returns-else-out-ge10
+unfolding shown
+returns-else-out-ge10 c = let h : length c.args.out.now < 10 = simp length-set at c.if-out-ge10.false in rw (lt-leb 10 _ h) (simp (put-cons, put-nil))

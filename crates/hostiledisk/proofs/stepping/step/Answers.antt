@@ -4,7 +4,7 @@ use Rattle.hostiledisk.specs.Calls.{hd_step}
 use Rattle.hostiledisk.proofs.Laws.{untouched-is}
 use Rattle.hostiledisk.proofs.Phases.{unframed, broken-is, short}
 use Rattle.words.specs.Layout.{state_words}
-use Rattle.hostiledisk.proofs.hd_step.Goals as goal
+use Rattle.hostiledisk.proofs.stepping.step.Goals as goal
 
 -- At each return the tests that led there choose the case of `hd_step`; a step is that of its phase (Phases).
 pub returns-then-state-lt-STATE_WORDS : goal.returns-then-state-lt-STATE_WORDS
