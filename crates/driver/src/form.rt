@@ -11,14 +11,12 @@ pub fn measure(spots: &[usize], first: usize, end: usize) -> usize
     ensures { result ≡ measured (spans (end - first) first spots.now) }
 {
     let mut left = 2097152;
-    let mut i = first;
-    while i < end {
+    for i in first..end {
         let len = spots[2 * i + 1];
         if left < len {
             return 2097153;
         }
         left -= len;
-        i += 1;
     }
     2097152 - left
 }
@@ -27,16 +25,15 @@ pub fn measure(spots: &[usize], first: usize, end: usize) -> usize
 pub fn formed(kind: usize, r: usize, w: usize) -> bool
     ensures { result ≡ formed kind r w }
 {
-    if 1 <= w {
-        let largest = Disk {
-            start: 0,
-            sectors: 4294967296,
-            ro: 0,
-        };
-        let status = request::status(request::verdict(largest, kind, 0, r, w));
-        return status == 0;
+    if w < 1 {
+        return false;
     }
-    false
+    let largest = Disk {
+        start: 0,
+        sectors: 4294967296,
+        ro: 0,
+    };
+    request::status(request::verdict(largest, kind, 0, r, w)) == 0
 }
 
 pub fn form_ok(kind: usize, r: usize, spots: &[usize], reads: usize, e: usize) -> bool
@@ -45,11 +42,10 @@ pub fn form_ok(kind: usize, r: usize, spots: &[usize], reads: usize, e: usize) -
     ensures { result ≡ form_ok kind r spots.now reads e }
 {
     let readable = measure(spots, 0, reads);
-    if readable == r {
-        let writable = measure(spots, reads, e);
-        return formed(kind, readable, writable);
+    if readable != r {
+        return false;
     }
-    false
+    formed(kind, readable, measure(spots, reads, e))
 }
 
 // Has the range no byte in common with the spots from first up to end?
@@ -57,12 +53,10 @@ fn clear_of(spots: &[usize], first: usize, end: usize, at: usize, len: usize) ->
     requires { 2 * end ≤ length spots.now }
     ensures { result ≡ clear_of (span at len) (spans (end - first) first spots.now) }
 {
-    let mut i = first;
-    while i < end {
+    for i in first..end {
         if regions::overlaps(at, len, spots[2 * i], spots[2 * i + 1]) {
             return false;
         }
-        i += 1;
     }
     true
 }
@@ -72,11 +66,8 @@ pub fn separate(spots: &[usize], end: usize) -> bool
     requires { 2 * end ≤ length spots.now }
     ensures { result ≡ separate (spans end 0 spots.now) }
 {
-    let mut i = 0;
-    while i < end {
-        if clear_of(spots, i + 1, end, spots[2 * i], spots[2 * i + 1]) {
-            i += 1;
-        } else {
+    for i in 0..end {
+        if !clear_of(spots, i + 1, end, spots[2 * i], spots[2 * i + 1]) {
             return false;
         }
     }

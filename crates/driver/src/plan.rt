@@ -13,14 +13,14 @@ fn note(state: usize, i: usize, n: usize, k: usize, nums: &mut [usize]) -> usize
     ensures value { result ≡ k + length (noted state i n k) }
     ensures nums_after { nums.new ≡ put nums.old k (noted state i n k) }
 {
-    if state == 0 {
-        if k < n {
-            nums[k] = i;
-            return k + 1;
-        }
+    if state != 0 {
         return k;
     }
-    k
+    if n <= k {
+        return k;
+    }
+    nums[k] = i;
+    k + 1
 }
 
 // The numbers of the first n free descriptors, lowest first; false if there are fewer.
@@ -30,11 +30,9 @@ fn choose(own: &[usize], q: usize, n: usize, nums: &mut [usize]) -> bool
     ensures value { result ≡ leb n (length (free q own.now)) }
     ensures nums_after { nums.new ≡ put nums.old 0 (take n (free q own.now)) }
 {
-    let mut i = 0;
     let mut k = 0;
-    while i < q {
+    for i in 0..q {
         k = note(own[i], i, n, k, nums);
-        i += 1;
     }
     n <= k
 }

@@ -13,20 +13,17 @@ pub fn used_idx(d: Driver, mem: &[u8]) -> usize
     ensures { result ≡ used_idx d mem.now }
 {
     let q = d.queue;
-    if room::queue_in(q, mem.len()) {
-        return wire::get16(mem, q.used + 2);
+    if !room::queue_in(q, mem.len()) {
+        return d.seen;
     }
-    d.seen
+    wire::get16(mem, q.used + 2)
 }
 
 fn outstanding(q: usize, own: &[usize], id: usize) -> bool
     requires { q ≤ length own.now }
     ensures { result ≡ outstanding q own.now id }
 {
-    if id < q {
-        return own[id] == id + 1;
-    }
-    false
+    id < q && own[id] == id + 1
 }
 
 // Is there an answer, and does it name an outstanding request? Sees no guest memory.
@@ -70,17 +67,13 @@ fn judge(
 fn countable(d: Driver, m: usize, own: usize, idx: usize) -> bool
     ensures { result ≡ countable d m own idx }
 {
-    let q = d.queue;
-    if room::queue_in(q, m) {
-        if q.size <= own {
-            if idx < 65536 {
-                return d.seen < 65536;
-            }
-            return false;
-        }
+    if !room::queue_in(d.queue, m) {
         return false;
     }
-    false
+    if own < d.queue.size {
+        return false;
+    }
+    idx < 65536 && d.seen < 65536
 }
 
 // Half of the next used entry: its id (0) or its length (4).
@@ -89,10 +82,10 @@ fn used_word(d: Driver, mem: &[u8], half: usize) -> usize
     ensures { result ≡ used_word d mem.now half }
 {
     let q = d.queue;
-    if room::queue_in(q, mem.len()) {
-        return wire::get32(mem, q.used + (4 + 8 * (d.seen % q.size)) + half);
+    if !room::queue_in(q, mem.len()) {
+        return 0;
     }
-    0
+    wire::get32(mem, q.used + (4 + 8 * (d.seen % q.size)) + half)
 }
 
 // The descriptors that belong to v are free again.
@@ -100,10 +93,8 @@ fn release(own: &mut [usize], q: usize, v: usize)
     requires { q ≤ length own.old }
     ensures { own.new ≡ released q v own.old }
 {
-    let mut i = 0;
-    while i < q {
+    for i in 0..q {
         free_one(own, i, v);
-        i += 1;
     }
 }
 
@@ -143,10 +134,10 @@ fn spots_in(m: usize, spots: &[usize], reads: usize, e: usize) -> bool
     if spots.len() / 2 < e {
         return false;
     }
-    if sane::all_inside(m, spots, reads, e) {
-        return 1 <= spots[2 * (e - 1) + 1];
+    if !sane::all_inside(m, spots, reads, e) {
+        return false;
     }
-    false
+    1 <= spots[2 * (e - 1) + 1]
 }
 
 // The status byte of an answered request.
@@ -167,13 +158,11 @@ fn collect(mem: &[u8], spots: &[usize], first: usize, end: usize, out: &mut [u8]
     requires spots_value { all_inside (length mem.now) (spans (end - first) first spots.now) ≡ true }
     ensures { out.new ≡ put out.old 0 (take (length out.old) (gather mem.now (spans (end - first) first spots.now))) }
 {
-    let mut i = first;
     let mut pos = 0;
-    while i < end {
+    for i in first..end {
         let n = answer::smaller(spots[2 * i + 1], out.len() - pos);
         moves::copy(mem, spots[2 * i], out, pos, n);
         pos += n;
-        i += 1;
     }
 }
 
@@ -182,9 +171,9 @@ pub fn read(mem: &[u8], spots: &[usize], reads: usize, e: usize, out: &mut [u8])
     ensures value { result ≡ spots_in (length mem.now) spots.now reads e }
     ensures out_after { out.new ≡ data_of mem.now spots.now reads e out.old }
 {
-    if spots_in(mem.len(), spots, reads, e) {
-        collect(mem, spots, reads, e, out);
-        return true;
+    if !spots_in(mem.len(), spots, reads, e) {
+        return false;
     }
-    false
+    collect(mem, spots, reads, e, out);
+    true
 }

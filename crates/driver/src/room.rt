@@ -11,30 +11,27 @@ use model::{Found, Queue};
 pub fn queue_in(q: Queue, m: usize) -> bool
     ensures { result ≡ queue_in q m }
 {
-    if ring::size_ok(q.size) {
-        let n = q.size;
-        if sane::inside(m, q.desc, 16 * n) {
-            if sane::inside(m, q.avail, 6 + 2 * n) {
-                return sane::inside(m, q.used, 6 + 8 * n);
-            }
-            return false;
-        }
+    let n = q.size;
+    if !ring::size_ok(n) {
         return false;
     }
-    false
+    if !sane::inside(m, q.desc, 16 * n) {
+        return false;
+    }
+    if !sane::inside(m, q.avail, 6 + 2 * n) {
+        return false;
+    }
+    sane::inside(m, q.used, 6 + 8 * n)
 }
 
 // The map is one that set-up allows, the queue lies in this memory, and the driver has a word for each of its descriptors.
 pub fn ready(q: Queue, map: &[usize], m: usize, own: usize) -> bool
     ensures { result ≡ ready q (regions map.now) m own }
 {
-    if regions::all_sound(m, map) {
-        if queue_in(q, m) {
-            return q.size <= own;
-        }
+    if !regions::all_sound(m, map) {
         return false;
     }
-    false
+    queue_in(q, m) && q.size <= own
 }
 
 // Whole buffers, at most q, and private memory for them.
@@ -62,10 +59,10 @@ fn spot_of(map: &[usize], m: usize, addr: usize, len: usize) -> Found
     requires { sound m (regions map.now) ≡ true }
     ensures { result ≡ spot_of (regions map.now) addr len }
 {
-    if len <= 4294967295 {
-        return regions::locate(map, m, addr, len);
+    if 4294967295 < len {
+        return Found::Nothing;
     }
-    Found::Nothing
+    regions::locate(map, m, addr, len)
 }
 
 // Where the e buffers lie in the slice; false at the first that isn't in memory.
@@ -76,15 +73,13 @@ pub fn settle(map: &[usize], m: usize, bufs: &[usize], e: usize, spots: &mut [us
     ensures value { result ≡ in_memory (regions map.now) bufs.now e 0 }
     ensures spots_after { spots.new ≡ settled (regions map.now) bufs.now e 0 spots.old }
 {
-    let mut i = 0;
-    while i < e {
+    for i in 0..e {
         let len = bufs[2 * i + 1];
         let found = spot_of(map, m, bufs[2 * i], len);
         let Found::At(x) = found else {
             return false;
         };
         chain::hold(spots, i, x, len);
-        i += 1;
     }
     true
 }

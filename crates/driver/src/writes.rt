@@ -31,16 +31,12 @@ fn flags_of(i: usize, reads: usize, e: usize) -> usize
     requires { i < e }
     ensures { result ≡ flags_of (ltb i reads) (eqb (i + 1) e) }
 {
-    if i < reads {
-        if i + 1 == e {
-            return 0;
-        }
-        return 1;
+    match (i < reads, i + 1 == e) {
+        (true, true) => 0,
+        (true, false) => 1,
+        (false, true) => 2,
+        (false, false) => 3,
     }
-    if i + 1 == e {
-        return 2;
-    }
-    3
 }
 
 fn next_of(nums: &[usize], i: usize, e: usize) -> usize
@@ -63,8 +59,7 @@ fn chain_up(mem: &mut [u8], q: Queue, bufs: &[usize], nums: &[usize], reads: usi
     ensures { mem.new ≡ apply (links bufs.now nums.now q.desc reads e e 0) mem.old }
 {
     let desc = q.desc;
-    let mut i = 0;
-    while i < e {
+    for i in 0..e {
         let flags = flags_of(i, reads, e);
         let next = next_of(nums, i, e);
         put_descriptor(
@@ -75,7 +70,6 @@ fn chain_up(mem: &mut [u8], q: Queue, bufs: &[usize], nums: &[usize], reads: usi
             flags,
             next,
         );
-        i += 1;
     }
 }
 
@@ -85,10 +79,8 @@ fn mark(own: &mut [usize], nums: &[usize], e: usize, v: usize)
     requires numbers { Numbers (length own.old) e nums.now }
     ensures { own.new ≡ marked (part 0 e nums.now) v own.old }
 {
-    let mut i = 0;
-    while i < e {
+    for i in 0..e {
         own[nums[i]] = v;
-        i += 1;
     }
 }
 

@@ -13,13 +13,11 @@ pub fn serve(
 ) -> usize
     ensures { StepIs (until n (untouched 1 state.old mem.old backing.old chain.old stage.old)) result state.new mem.new backing.new chain.new stage.new }
 {
-    let mut i = 0;
-    while i < n {
+    for _ in 0..n {
         let code = hostiledisk::hd_step(state, mem, backing, chain, stage);
         if code != 1 {
             return code;
         }
-        i += 1;
     }
     1
 }

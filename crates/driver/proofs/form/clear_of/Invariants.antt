@@ -6,6 +6,3 @@ use Rattle.driver.proofs.form.clear_of.Given as goal
 
 abbrev pub invariant-loop-i : goal.invariant-loop-i
 invariant-loop-i l = clear_of (span l.at l.len) (spans (l.end - l.first) l.first l.spots) ≡ clear_of (span l.at l.len) (spans (l.end - l.i) l.i l.spots)
-
-abbrev pub decreases-loop-i : goal.decreases-loop-i
-decreases-loop-i l = l.end - l.i

@@ -6,6 +6,3 @@ use Rattle.driver.proofs.form.measure.Given as goal
 
 abbrev pub invariant-loop-i : goal.invariant-loop-i
 invariant-loop-i l = (l.left ≤ 2097152) × (total (spans (l.end - l.first) l.first l.spots) + l.left ≡ 2097152 + total (spans (l.end - l.i) l.i l.spots))
-
-abbrev pub decreases-loop-i : goal.decreases-loop-i
-decreases-loop-i l = l.end - l.i

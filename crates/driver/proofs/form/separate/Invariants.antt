@@ -6,6 +6,3 @@ use Rattle.driver.proofs.form.separate.Given as goal
 
 abbrev pub invariant-loop-i : goal.invariant-loop-i
 invariant-loop-i l = separate (spans l.end 0 l.spots) ≡ separate (spans (l.end - l.i) l.i l.spots)
-
-abbrev pub decreases-loop-i : goal.decreases-loop-i
-decreases-loop-i l = l.end - l.i

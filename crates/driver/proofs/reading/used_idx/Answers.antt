@@ -4,20 +4,16 @@ use native.Mathlib.Omega.{arith}
 use Rattle.driver.proofs.Laws.{queue-ok}
 use Rattle.driver.proofs.reading.used_idx.Goals as goal
 
--- src/reading.rt:22:33
 pub overflow_add-q : goal.overflow_add-q
-overflow_add-q c = omega (arith, queue-ok _ _ (sym c.queue_in.ensures ∙ c.if-queue_in.true))
+overflow_add-q c = omega (arith, queue-ok _ _ (sym c.queue_in.ensures ∙ c.if-not-queue_in.false))
 
--- src/reading.rt:22:9
 pub get16-requires : goal.get16-requires
-get16-requires c = omega (arith, queue-ok _ _ (sym c.queue_in.ensures ∙ c.if-queue_in.true))
+get16-requires c = omega (arith, queue-ok _ _ (sym c.queue_in.ensures ∙ c.if-not-queue_in.false))
 
--- src/reading.rt:22:9
-pub returns-then-queue_in : goal.returns-then-queue_in
-unfolding used_idx
-returns-then-queue_in c = rw (← c.queue_in.ensures, c.if-queue_in.true) c.get16.ensures.value
-
--- src/reading.rt:17:1
 pub returns : goal.returns
 unfolding used_idx
-returns c = rw (← c.queue_in.ensures, c.if-queue_in.false)
+returns c = rw (← c.queue_in.ensures, c.if-not-queue_in.false) c.get16.ensures.value
+
+pub returns-then-not-queue_in : goal.returns-then-not-queue_in
+unfolding used_idx
+returns-then-not-queue_in c = rw (← c.queue_in.ensures, c.if-not-queue_in.true)

@@ -7,6 +7,3 @@ use Rattle.driver.proofs.writes.chain_up.Given as goal
 
 abbrev pub invariant-loop-i : goal.invariant-loop-i
 invariant-loop-i l = (length l.mem ≡ length l.initial.mem) × (apply (links l.bufs l.nums l.desc l.reads l.e l.e 0) l.initial.mem ≡ apply (links l.bufs l.nums l.desc l.reads l.e (l.e - l.i) l.i) l.mem)
-
-abbrev pub decreases-loop-i : goal.decreases-loop-i
-decreases-loop-i l = l.e - l.i

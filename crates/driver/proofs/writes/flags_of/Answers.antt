@@ -2,22 +2,18 @@ use Rattle.model.proofs.Tests.{tests}
 use Rattle.driver.specs.Lay.{flags_of}
 use Rattle.driver.proofs.writes.flags_of.Goals as goal
 
--- src/writes.rt:39:13
-pub returns-then-i-e : goal.returns-then-i-e
+pub returns-in-true-true : goal.returns-in-true-true
 unfolding flags_of
-returns-then-i-e c = search tests
+returns-in-true-true c = search tests
 
--- src/writes.rt:41:9
-pub returns-then-i-reads : goal.returns-then-i-reads
+pub returns-in-true-false : goal.returns-in-true-false
 unfolding flags_of
-returns-then-i-reads c = search tests
+returns-in-true-false c = search tests
 
--- src/writes.rt:44:9
-pub returns-then-i-e-2 : goal.returns-then-i-e-2
+pub returns-in-false-true : goal.returns-in-false-true
 unfolding flags_of
-returns-then-i-e-2 c = search tests
+returns-in-false-true c = search tests
 
--- src/writes.rt:33:1
-pub returns : goal.returns
+pub returns-in-false-false : goal.returns-in-false-false
 unfolding flags_of
-returns c = search tests
+returns-in-false-false c = search tests

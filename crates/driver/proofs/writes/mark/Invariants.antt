@@ -7,6 +7,3 @@ use Rattle.driver.proofs.writes.mark.Given as goal
 
 abbrev pub invariant-loop-i : goal.invariant-loop-i
 invariant-loop-i l = (length l.own ≡ length l.initial.own) × (marked (part 0 l.e l.nums) l.v l.initial.own ≡ marked (part l.i (l.e - l.i) l.nums) l.v l.own)
-
-abbrev pub decreases-loop-i : goal.decreases-loop-i
-decreases-loop-i l = l.e - l.i

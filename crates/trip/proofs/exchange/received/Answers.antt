@@ -1,5 +1,7 @@
 use Rattle.std.proofs.lemmas.Result.{err_from_is_err_and}
 use Rattle.trip.specs.Exchange.{received, with_status}
+use mathlib.Core.Path.{◌≡◌}
+use native.Mathlib.Omega.{arith}
 use borrow.Author.Tests.{eq-eqb, ne_eqb}
 use Rattle.trip.proofs.exchange.received.Goals as goal
 
@@ -13,7 +15,7 @@ returns-in_default c = rw (c.in_ok-a.was, c.in_default.is)
 
 pub returns-then-a-head : goal.returns-then-a-head
 unfolding received
-returns-then-a-head c = rw (c.in_ok-a.was, c.in-Some.is, ne_eqb _ _ c.if-a-head.true)
+returns-then-a-head c = let ne : c.in-Some.a.head ≡ c.args.head → ⊥ = omega arith in rw (c.in_ok-a.was, c.in-Some.is, ne_eqb _ _ ne)
 
 pub returns-in_default-status : goal.returns-in_default-status
 unfolding received with_status
