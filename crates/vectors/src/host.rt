@@ -103,7 +103,7 @@ impl fmt::Display for Broken {
 }
 
 // Does the host stop stepping after this answer?
-pub fn stops(answer: usize) -> bool {
+fn stops(answer: usize) -> bool {
     !matches!(answer, 1 | 2)
 }
 
@@ -117,36 +117,42 @@ impl Host {
         hostiledisk::hd_step(state, &mut mem.0, &mut backing.0, chain, stage)
     }
 
-    // Steps until nothing is left to do or the queue is broken, at most 64 times; `tell` says what a step answered.
-    fn run<F: FnMut(usize, &[usize]) -> io::Result<()>>(
+    // Steps until nothing is left to do or the queue is broken, at most this many times; `tell` is told each answer. How many steps there
+    // were, and what the last one answered.
+    pub fn run<F: FnMut(usize, &[usize]) -> io::Result<()>>(
         &mut self,
         state: &mut [usize],
+        chain: &mut [usize],
+        most: usize,
         mut tell: F,
-    ) -> io::Result<()>
+    ) -> io::Result<(usize, usize)>
         requires { F.IsAlwaysCallable tell }
     {
-        let mut chain = [0; 16];
-        for _ in 0..64 {
-            let answer = self.step(state, &mut chain);
+        let mut answer = 1;
+        for i in 0..most {
+            answer = self.step(state, chain);
             tell(answer, state)?;
             if stops(answer) {
-                break;
+                return Ok((i + 1, answer));
             }
         }
-        Ok(())
+        Ok((most, answer))
     }
 
     // Says the answers, side by side.
     pub fn serve(&mut self, rt: &impl Print, state: &mut [usize]) -> io::Result<()> {
-        self.run(state, |answer, _| print!(rt; "{answer}"))
+        self.run(state, &mut [0; 16], 64, |answer, _| print!(rt; "{answer}"))?;
+        Ok(())
     }
 
     // Says each answer on a line, with the words of hd_status.
     pub fn trace(&mut self, rt: &impl Print, state: &mut [usize]) -> io::Result<()> {
-        self.run(
-            state,
-            |answer, state| println!(rt; "{answer} |{}", Words(&status(state))),
-        )
+        let tell = |answer: usize, state: &[usize]| println!(rt;
+            "{answer} |{}",
+            Words(&status(state))
+        );
+        self.run(state, &mut [0; 16], 64, tell)?;
+        Ok(())
     }
 
     // What was laid is served, and its data may go to these places. Says the answers; why the queue is broken, or the used ring's first

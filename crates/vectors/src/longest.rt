@@ -56,27 +56,13 @@ fn lay(mem: &mut Bytes, flags: usize) {
     mem.put(0xd000, 4, 0);
 }
 
-// Steps until nothing is left to do or the queue is broken, at most 1,100 times. Says how many there were, and the last one's answer.
-fn run(rt: &impl Print, host: &mut Host, state: &mut [usize]) -> io::Result<()> {
-    let mut chain = [0; 2048];
-    let mut answer = 1;
-    let mut steps = 0;
-    for i in 1..1101 {
-        steps = i;
-        answer = host.step(state, &mut chain);
-        if host::stops(answer) {
-            break;
-        }
-    }
-    print!(rt; "{steps} steps, the last one {answer}")
-}
-
 fn play(rt: &impl Print, host: &mut Host, flags: usize) -> io::Result<()> {
     lay(&mut host.mem, flags);
     let before = host.mem;
     let mut state = [0; hostiledisk::STATE_WORDS];
     enable(&mut state, 2048);
-    run(rt, host, &mut state)?;
+    let (steps, last) = host.run(&mut state, &mut [0; 2048], 1100, |_, _| Ok(()))?;
+    print!(rt; "{steps} steps, the last one {last}")?;
     match Broken::of(&state) {
         Some(why) => print!(rt; ", {why}")?,
         None => answered(rt, host)?,

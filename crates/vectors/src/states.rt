@@ -19,19 +19,22 @@ fn status(rt: &impl Print, state: &[usize]) -> io::Result<()> {
 
 // Each set-up call has something else to refuse too, which comes later in its order.
 fn set_up(rt: &impl Print, state: &mut [usize]) -> io::Result<()> {
-    println!(rt; "hd_disk: {}", hostiledisk::hd_disk(state, 0, 0, 0, b"", 0))?;
-    println!(rt;
-        "hd_enable: {}",
-        hostiledisk::hd_enable(state, 0, 0, 0, 0, 0, 0)
-    )?;
-    println!(rt;
-        "hd_enable_at: {}",
-        hostiledisk::hd_enable_at(state, 0, 0, 0, 0, 0, 0, 0)
-    )?;
-    println!(rt;
-        "hd_memory, no region: {}",
-        hostiledisk::hd_memory(state, &[], 0)
-    )
+    let answers = [
+        ("hd_disk", hostiledisk::hd_disk(state, 0, 0, 0, b"", 0)),
+        ("hd_enable", hostiledisk::hd_enable(state, 0, 0, 0, 0, 0, 0)),
+        (
+            "hd_enable_at",
+            hostiledisk::hd_enable_at(state, 0, 0, 0, 0, 0, 0, 0),
+        ),
+        (
+            "hd_memory, no region",
+            hostiledisk::hd_memory(state, &[], 0),
+        ),
+    ];
+    for (name, answer) in answers {
+        println!(rt; "{name}: {answer}")?;
+    }
+    Ok(())
 }
 
 fn calls(rt: &impl Print, host: &mut Host, state: &mut [usize]) -> io::Result<()> {

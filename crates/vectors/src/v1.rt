@@ -5,11 +5,17 @@ use crate::say::Words;
 use std::io;
 
 fn laid(rt: &impl Print, mem: &Bytes) -> io::Result<()> {
-    println!(rt; "V1: descriptor 0: {}", mem.hex(0x1000..0x1010))?;
-    println!(rt; "V1: descriptor 1: {}", mem.hex(0x1010..0x1020))?;
-    println!(rt; "V1: descriptor 2: {}", mem.hex(0x1020..0x1030))?;
-    println!(rt; "V1: header: {}", mem.hex(0x4000..0x4010))?;
-    println!(rt; "V1: available ring: {}", mem.hex(0x2000..0x2006))
+    let rows = [
+        ("descriptor 0", 0x1000, 0x1010),
+        ("descriptor 1", 0x1010, 0x1020),
+        ("descriptor 2", 0x1020, 0x1030),
+        ("header", 0x4000, 0x4010),
+        ("available ring", 0x2000, 0x2006),
+    ];
+    for (name, from, to) in rows {
+        println!(rt; "V1: {name}: {}", mem.hex(from..to))?;
+    }
+    Ok(())
 }
 
 fn answer(rt: &impl Print, mem: &Bytes) -> io::Result<()> {
