@@ -8,7 +8,7 @@ ghost use Rattle.model.specs.Memory.{regions, sound};
 ghost use Rattle.model.specs.Chain.{desc_at, tested_by, tested, tally, held, complete, described, descs_after, keeps};
 ghost use Rattle.chain.specs.Bounds.{DescOk};
 
-use model::{Desc, Found, Job, Linked, Phase, Place, Tested, Walk};
+use model::{Desc, Job, Linked, Phase, Place, Tested, Walk};
 
 // S3 fetches a descriptor, all 16 bytes of it. Whatever the guest does to them afterwards, this copy counts.
 pub fn fetch(mem: &[u8], at: usize) -> Desc
@@ -41,7 +41,7 @@ pub fn judge(
     len: usize,
     flags: usize,
     next: usize,
-    found: Found,
+    found: Option<usize>,
 ) -> Tested
     ensures { result ≡ tested_by (leb q count) (ltb 3 flags) (eqb len 0) found (both (ltb flags 2) (ltb reads count)) (eqb (flags % 2) 0) (leb q next) }
 {
@@ -54,7 +54,7 @@ pub fn judge(
     if len == 0 {
         return Tested::Bad(5);
     }
-    let Found::At(x) = found else {
+    let Some(x) = found else {
         return Tested::Bad(6);
     };
     if late(flags, reads, count) {

@@ -4,24 +4,27 @@
 ghost use Rattle.std.specs.Prelude.{◌≡◌, ◌++◌, ◌+◌, ◌≤◌, length};
 ghost use Rattle.model.specs.Bytes.{put, part};
 ghost use Rattle.model.specs.Request.{disk_code};
+ghost use Rattle.model.specs.SetUp.{answer_of};
 
-// 29, 30, or 0.
-pub fn disk_code(start: usize, sectors: usize, backing: usize) -> usize
-    ensures { result ≡ disk_code start sectors backing }
+use model::Refusal;
+
+// 29, 30, or none.
+pub fn check_disk(start: usize, sectors: usize, backing: usize) -> Result<(), Refusal>
+    ensures { answer_of result ≡ disk_code start sectors backing }
 {
     if sectors < 1 {
-        return 29;
+        return Err(Refusal::Capacity);
     }
     if 4294967296 < sectors {
-        return 29;
+        return Err(Refusal::Capacity);
     }
     if backing < 512 * sectors {
-        return 30;
+        return Err(Refusal::LeavesBacking);
     }
     if backing - 512 * sectors < start {
-        return 30;
+        return Err(Refusal::LeavesBacking);
     }
-    0
+    Ok(())
 }
 
 // The one write to a disk: the staged bytes first, and the last buffer's bytes straight behind them.

@@ -14,8 +14,7 @@ use Rattle.model.specs.Bytes.{put}
 use Rattle.model.specs.Memory.{Region, sound, locate}
 use Rattle.model.specs.Step.{Span, spans}
 use Rattle.model.specs.Sane.{all_inside, inside}
-use Rattle.model.specs.declared.Found.{Found}
-use Rattle.model.specs.declared.Found.TheVariants.{At, Nothing}
+use Rattle.std.specs.Prelude.{Option, Some, None}
 use Rattle.model.specs.declared.Queue.{Queue}
 use Rattle.model.proofs.Tests.{both-split, picked, on}
 use Rattle.model.proofs.Memory.{locate-slice}
@@ -73,13 +72,13 @@ reads-inside rs m bufs spots (suc n) k s each =
     (reads-inside rs m bufs spots n (suc k) s (λ i u. each i (omega arith)))
 
 -- each buffer's spot
-at_place : (f : Found) → is_at f ≡ true → f ≡ At (place_of f)
+at_place : (f : Option ℕ) → is_at f ≡ true → f ≡ Some (place_of f)
 unfolding is_at place_of
-at_place (At x) e = refl
-at_place Nothing e = let z : ◌≡◌ {A = Bool} true false = cc in absurd (let w : ◌≡◌ {A = ℕ} 0 1 = cc in omega arith)
+at_place (Some x) e = refl
+at_place None e = let z : ◌≡◌ {A = Bool} true false = cc in absurd (let w : ◌≡◌ {A = ℕ} 0 1 = cc in omega arith)
 
 pub record Settled (rs : List Region) (bufs after : List ℕ) (j : ℕ) : Type 0 where
-  pub spot_is : spot_at rs bufs j ≡ At (get_or after (2 * j) 0)
+  pub spot_is : spot_at rs bufs j ≡ Some (get_or after (2 * j) 0)
   pub len_is : get_or after (2 * j + 1) 0 ≡ get_or bufs (2 * j + 1) 0
 
 -- .. in the memory of the turn that settled it
@@ -90,7 +89,7 @@ settled_here rs bufs n i spots t l =
     let w : (k : ℕ) → k < 2 → get_or (settled rs bufs n (suc i) (put spots (2 * i) ys)) (2 * i + k) 0 ≡ get_or ys k 0 =
     λ k v. settled-below rs bufs n (suc i) (put spots (2 * i) ys) (2 * i + k) (omega arith) ∙ put_in spots (2 * i) ys k v (omega arith) in
     let z : 2 * i + 0 ≡ 2 * i = omega arith in
-    record { spot_is = at_place (spot_at rs bufs i) t ∙ ap (λ (x : ℕ). At x) (sym (rw z at (w 0 (omega arith)))); len_is = w 1 (omega arith) }
+    record { spot_is = at_place (spot_at rs bufs i) t ∙ ap (λ (x : ℕ). Some x) (sym (rw z at (w 0 (omega arith)))); len_is = w 1 (omega arith) }
 
 settled_at : (rs : List Region) (bufs : List ℕ) (n i : ℕ) (spots : List ℕ) (j : ℕ) → in_memory rs bufs n i ≡ true → 2 * (i + n) ≤ length spots → i ≤ j → j < i + n
     → Settled rs bufs (settled rs bufs n i spots) j
@@ -108,9 +107,9 @@ settled_at rs bufs (suc n) i spots j t l h u =
     go true v here there = let z : i ≡ j = eqb-true i j v in rw (← z) here
     go false v here there = let z : i ≡ j → ⊥ = eqb-false i j v in there (omega arith)
 
-spot-located : (rs : List Region) (a l x : ℕ) → spot_of rs a l ≡ At x → (locate rs a l ≡ At x) × (l ≤ 4294967295)
+spot-located : (rs : List Region) (a l x : ℕ) → spot_of rs a l ≡ Some x → (locate rs a l ≡ Some x) × (l ≤ 4294967295)
 unfolding spot_of
-spot-located rs a l x = on (λ (f : Found). f ≡ At x → (locate rs a l ≡ At x) × (l ≤ 4294967295)) (leb l 4294967295) (λ t e. (e, leb-true l 4294967295 t))
+spot-located rs a l x = on (λ (f : Option ℕ). f ≡ Some x → (locate rs a l ≡ Some x) × (l ≤ 4294967295)) (leb l 4294967295) (λ t e. (e, leb-true l 4294967295 t))
     (λ t e. let z : ◌≡◌ {A = ℕ} 0 1 = cc in absurd (omega arith))
 
 -- the buffers' spots and the areas'

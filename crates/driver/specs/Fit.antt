@@ -1,17 +1,16 @@
 -- What laying stands on once its tests are passed.
-use Rattle.std.specs.Prelude.{ℕ, ◌+◌, ◌-◌, ◌*◌, ◌≤◌, ◌<◌, true, List, ◌≡◌, get_or, length}
+use Rattle.std.specs.Prelude.{ℕ, ◌+◌, ◌-◌, ◌*◌, ◌≤◌, ◌<◌, true, List, ◌≡◌, get_or, length, Some}
 use Rattle.model.specs.Memory.{Region, sound, locate}
 use Rattle.model.specs.Ring.{queue_size_ok}
 use Rattle.model.specs.Step.{spans}
 use Rattle.model.specs.Sane.{all_inside}
-use Rattle.model.specs.declared.Found.TheVariants.{At}
 use Rattle.model.specs.declared.Queue.{Queue}
 use Rattle.requests.specs.Serve.{total}
 use Rattle.driver.specs.Lay.{separate, formed}
 
 -- a buffer of the request: in memory, at its spot
 pub record Spot (rs : List Region) (bufs spots : List ℕ) (i : ℕ) : Type 0 where
-  pub located : locate rs (get_or bufs (2 * i) 0) (get_or bufs (2 * i + 1) 0) ≡ At (get_or spots (2 * i) 0)
+  pub located : locate rs (get_or bufs (2 * i) 0) (get_or bufs (2 * i + 1) 0) ≡ Some (get_or spots (2 * i) 0)
   pub len_is : get_or spots (2 * i + 1) 0 ≡ get_or bufs (2 * i + 1) 0
   pub short : get_or bufs (2 * i + 1) 0 ≤ 4294967295
 

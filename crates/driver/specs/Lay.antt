@@ -1,16 +1,15 @@
 -- Laying a request (03 §7): what the driver refuses, and what it writes. A request is a type, a sector, the message (16 bytes for the header, then
 -- the data for the disk) and its buffers, two words each, guest address and length: the first `reads` of them readable, the others writable.
-use Rattle.std.specs.Prelude.{ℕ, zero, suc, ◌+◌, ◌-◌, ◌*◌, ◌/◌, ◌%◌, ◌^◌, min, Bool, true, false, List, [], ◌∷◌, ◌++◌, ◌≡◌, leb, ltb, eqb, get_or, length, take, set, Result, Ok, Err}
+use Rattle.std.specs.Prelude.{ℕ, zero, suc, ◌+◌, ◌-◌, ◌*◌, ◌/◌, ◌%◌, ◌^◌, min, Bool, true, false, List, [], ◌∷◌, ◌++◌, ◌≡◌, leb, ltb, eqb, get_or, length, take, set, Option, Some, None, Result, Ok, Err}
 use Rattle.model.specs.Pick.{pick, both}
 use Rattle.model.specs.Bytes.{put, part, bytes}
 use Rattle.model.specs.Memory.{Region, regions, memory_code, overlap, sound, locate}
 use Rattle.model.specs.Ring.{queue_size_ok, areas, plus_one}
 use Rattle.model.specs.Request.{verdict, status}
+use Rattle.model.specs.SetUp.{number as refusal_number}
 use Rattle.model.specs.Step.{Span, Store, apply, scatter, spans}
-use Rattle.model.specs.declared.Found.{Found}
-use Rattle.model.specs.declared.Found.TheVariants.{At, Nothing}
 use Rattle.model.specs.declared.Queue.{Queue}
-use Rattle.model.specs.declared.Areas.{Areas}
+use Rattle.model.specs.declared.Refusal.{Refusal}
 use Rattle.requests.specs.Serve.{total}
 use Rattle.driver.specs.declared.Driver.{Driver}
 use Rattle.driver.specs.declared.Attached.{Attached}
@@ -75,18 +74,18 @@ marked [] v own = own
 marked (n ∷ ns) v own = marked ns v (set own n v)
 
 -- a buffer in memory; its length is a descriptor's u32
-unfoldable pub spot_of : List Region → ℕ → ℕ → Found
-spot_of rs addr len = pick (leb len 4294967295) (locate rs addr len) Nothing
+unfoldable pub spot_of : List Region → ℕ → ℕ → Option ℕ
+spot_of rs addr len = pick (leb len 4294967295) (locate rs addr len) None
 
-unfoldable pub is_at : Found → Bool
-is_at (At x) = true
-is_at Nothing = false
+unfoldable pub is_at : Option ℕ → Bool
+is_at (Some x) = true
+is_at None = false
 
-unfoldable pub place_of : Found → ℕ
-place_of (At x) = x
-place_of Nothing = 0
+unfoldable pub place_of : Option ℕ → ℕ
+place_of (Some x) = x
+place_of None = 0
 
-abbrev pub spot_at : List Region → List ℕ → ℕ → Found
+abbrev pub spot_at : List Region → List ℕ → ℕ → Option ℕ
 spot_at rs bufs i = spot_of rs (get_or bufs (2 * i) 0) (get_or bufs (2 * i + 1) 0)
 
 -- n buffers from buffer i on are in memory ..
@@ -242,9 +241,9 @@ unfoldable pub published : Driver → List ℕ → List ℕ
 published d mem = pick (queue_in d.queue (length mem)) (put mem (d.queue.avail + 2) (bytes 2 d.next)) mem
 
 -- set-up: the refusals of hd_memory and hd_enable_at, in their order, or a driver with both counts at start
-unfoldable pub attached_with : ℕ → Areas → Attached
-attached_with start (Areas.Refused n) = Attached.Refused n
-attached_with start (Areas.Placed q) = pick (leb 65536 start) (Attached.Refused 46) (Attached.Ready (record { queue = q; next = start; seen = start }))
+unfoldable pub attached_with : ℕ → Result Queue Refusal → Attached
+attached_with start (Err e) = Attached.Refused (refusal_number e)
+attached_with start (Ok q) = pick (leb 65536 start) (Attached.Refused 46) (Attached.Ready (record { queue = q; next = start; seen = start }))
 
 unfoldable pub attached : List ℕ → ℕ → ℕ → ℕ → ℕ → ℕ → ℕ → Attached
 attached words m size desc avail used start =

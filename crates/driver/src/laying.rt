@@ -5,16 +5,16 @@ ghost use Rattle.model.specs.Memory.{regions};
 ghost use Rattle.driver.specs.Lay.{attached_with, attached, lay, LayIs, publish_answer, published};
 
 use crate::{Ask, Attached, Driver, Laid, NotLaid, plan, room, writes};
-use model::Areas;
+use model::{Queue, Refusal};
 
-fn attached_with(start: usize, found: Areas) -> Attached
+fn attached_with(start: usize, found: Result<Queue, Refusal>) -> Attached
     ensures { result ≡ attached_with start found }
 {
     match found {
-        Areas::Refused(n) => Attached::Refused(n),
-        Areas::Placed(q) => {
+        Err(e) => Attached::Refused(e.number()),
+        Ok(q) => {
             if 65536 <= start {
-                return Attached::Refused(46);
+                return Attached::Refused(Refusal::StartCount.number());
             }
             Attached::Ready(Driver {
                 queue: q,
@@ -37,12 +37,13 @@ pub fn attach(
 ) -> Attached
     ensures { result ≡ attached map.now m size desc avail used start }
 {
-    let code = regions::memory_code(m, map);
-    if code != 0 {
-        return Attached::Refused(code);
+    match regions::check_map(m, map) {
+        Ok(()) => {
+            let found = ring::areas(map, m, size, desc, avail, used);
+            attached_with(start, found)
+        }
+        Err(e) => Attached::Refused(e.number()),
     }
-    let found = ring::areas(map, m, size, desc, avail, used);
-    attached_with(start, found)
 }
 
 // Lays a request: the message, whose first 16 bytes become the header, over the readable buffers; a descriptor for each buffer;

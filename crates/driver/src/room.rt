@@ -5,7 +5,7 @@ ghost use Rattle.model.specs.Bytes.{put};
 ghost use Rattle.model.specs.Memory.{regions, sound};
 ghost use Rattle.driver.specs.Lay.{queue_in, ready, counts_ok, spot_of, in_memory, settled, area_words};
 
-use model::{Found, Queue};
+use model::Queue;
 
 // The three areas lie in a memory of m bytes.
 pub fn queue_in(q: Queue, m: usize) -> bool
@@ -55,12 +55,12 @@ pub fn counts_ok(q: usize, words: usize, reads: usize, spots: usize, nums: usize
     e <= nums
 }
 
-fn spot_of(map: &[usize], m: usize, addr: usize, len: usize) -> Found
+fn spot_of(map: &[usize], m: usize, addr: usize, len: usize) -> Option<usize>
     requires { sound m (regions map.now) ≡ true }
     ensures { result ≡ spot_of (regions map.now) addr len }
 {
     if 4294967295 < len {
-        return Found::Nothing;
+        return None;
     }
     regions::locate(map, m, addr, len)
 }
@@ -76,7 +76,7 @@ pub fn settle(map: &[usize], m: usize, bufs: &[usize], e: usize, spots: &mut [us
     for i in 0..e {
         let len = bufs[2 * i + 1];
         let found = spot_of(map, m, bufs[2 * i], len);
-        let Found::At(x) = found else {
+        let Some(x) = found else {
             return false;
         };
         chain::hold(spots, i, x, len);

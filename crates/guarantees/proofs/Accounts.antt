@@ -21,8 +21,9 @@ use Rattle.hostiledisk.specs.Calls.{Set, Called, stepped, stepped_on, Going, mem
 use Rattle.model.proofs.Tests.{on, both_r}
 use Rattle.model.proofs.Chain.{tally-same}
 use Rattle.model.specs.Memory.{regions, memory_code}
-use Rattle.model.specs.declared.Areas.{Areas}
-use Rattle.model.specs.declared.Areas.TheVariants.{Refused, Placed}
+use Rattle.std.specs.Prelude.{Result, Ok, Err}
+use Rattle.model.specs.declared.Queue.{Queue}
+use Rattle.model.specs.declared.Refusal.{Refusal}
 use Rattle.guarantees.specs.Accounts.{held, at_hand, Fate, answered, dropped, head_of, takes, gives, taken, fates, taken_in, fates_in}
 use Rattle.guarantees.specs.History.{Call, memory, disk, enable, reset, step as step_over, World, ran, left as leaves, run, BytesNow, Bytes}
 use Rattle.guarantees.specs.Good.{Made}
@@ -230,10 +231,10 @@ account-disk w start sectors ro id b =
     (λ g. append-nil (at_hand w)))
     (λ f. append-nil (at_hand w)))
 
-account-enabled : (w : World) (c g start : ℕ) (x : Areas) → state_words ≤ length w.state → level w.state ≡ 2 → at_hand w ++ [] ≡ at_hand (with-state w (enabled_with w.state c g start x).state)
+account-enabled : (w : World) (c g start : ℕ) (x : Result Queue Refusal) → state_words ≤ length w.state → level w.state ≡ 2 → at_hand w ++ [] ≡ at_hand (with-state w (enabled_with w.state c g start x).state)
 unfolding enabled_with
-account-enabled w c g start (Refused n) l e = append-nil (at_hand w)
-account-enabled w c g start (Placed q) l e =
+account-enabled w c g start (Err n) l e = append-nil (at_hand w)
+account-enabled w c g start (Ok q) l e =
     let P : Set → Type 0 = λ x. at_hand w ++ [] ≡ at_hand (with-state w x.state) in
     on P (ltb c (2 * q.size)) (λ f. append-nil (at_hand w))
     (λ f. on P (ltb g 1048576) (λ f. append-nil (at_hand w))

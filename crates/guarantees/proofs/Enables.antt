@@ -24,10 +24,11 @@ use Rattle.hostiledisk.proofs.Laws.{memory-ok, level-two}
 use Rattle.guarantees.proofs.Good.{both_true}
 use Rattle.guarantees.proofs.Stays.{tower-all}
 use Rattle.guarantees.proofs.Reached.{queue-word, queue-other, queue-part, queue-phase}
-use Rattle.model.specs.declared.Found.{Found}
-use Rattle.model.specs.declared.Found.TheVariants.{At, Nothing}
-use Rattle.model.specs.declared.Areas.{Areas}
-use Rattle.model.specs.declared.Areas.TheVariants.{Refused, Placed}
+use Rattle.std.specs.Prelude.{Option, Some, None, Result, Ok, Err}
+use Rattle.model.specs.SetUp.{number}
+use Rattle.model.proofs.SetUp.{number-some}
+use Rattle.model.specs.declared.Refusal.{Refusal}
+use Rattle.model.specs.declared.Refusal.TheVariants.{QueueSize, Misaligned}
 use Rattle.model.specs.declared.Queue.{Queue}
 
 -- areas that were placed: a good size, and inside the slice
@@ -37,20 +38,20 @@ pub record Inside (m : ℕ) (q : Queue) : Type 0 where
   pub avail-in : q.avail + (6 + 2 * q.size) ≤ m
   pub used-in : q.used + (6 + 8 * q.size) ≤ m
 
-areas-inside : (m : ℕ) (rs : List Region) (size desc avail used : ℕ) (q : Queue) → sound m rs ≡ true → areas rs size desc avail used ≡ Placed q → Inside m q
+areas-inside : (m : ℕ) (rs : List Region) (size desc avail used : ℕ) (q : Queue) → sound m rs ≡ true → areas rs size desc avail used ≡ Ok q → Inside m q
 unfolding areas placed
 areas-inside m rs size desc avail used q s h =
     go (queue_size_ok size) (aligned desc avail used) (locate rs desc (16 * size)) (locate rs avail (6 + 2 * size)) (locate rs used (6 + 8 * size)) (entangled size desc avail used) refl refl refl refl h
   where
-    go : (a b : Bool) (x y z : Found) (t : Bool) → queue_size_ok size ≡ a → locate rs desc (16 * size) ≡ x → locate rs avail (6 + 2 * size) ≡ y → locate rs used (6 + 8 * size) ≡ z
-        → pick a (pick b (placed size x y z t) (Refused 26)) (Refused 25) ≡ Placed q → Inside m q
+    go : (a b : Bool) (x y z : Option ℕ) (t : Bool) → queue_size_ok size ≡ a → locate rs desc (16 * size) ≡ x → locate rs avail (6 + 2 * size) ≡ y → locate rs used (6 + 8 * size) ≡ z
+        → pick a (pick b (placed size x y z t) (Err Misaligned)) (Err QueueSize) ≡ Ok q → Inside m q
     go false b x y z t ea ex ey ez h = let n : ◌≡◌ {A = ℕ} 0 1 = cc in absurd (omega arith)
     go true false x y z t ea ex ey ez h = let n : ◌≡◌ {A = ℕ} 0 1 = cc in absurd (omega arith)
-    go true true Nothing y z t ea ex ey ez h = let n : ◌≡◌ {A = ℕ} 0 1 = cc in absurd (omega arith)
-    go true true (At x) Nothing z t ea ex ey ez h = let n : ◌≡◌ {A = ℕ} 0 1 = cc in absurd (omega arith)
-    go true true (At x) (At y) Nothing t ea ex ey ez h = let n : ◌≡◌ {A = ℕ} 0 1 = cc in absurd (omega arith)
-    go true true (At x) (At y) (At z) true ea ex ey ez h = let n : ◌≡◌ {A = ℕ} 0 1 = cc in absurd (omega arith)
-    go true true (At x) (At y) (At z) false ea ex ey ez h =
+    go true true None y z t ea ex ey ez h = let n : ◌≡◌ {A = ℕ} 0 1 = cc in absurd (omega arith)
+    go true true (Some x) None z t ea ex ey ez h = let n : ◌≡◌ {A = ℕ} 0 1 = cc in absurd (omega arith)
+    go true true (Some x) (Some y) None t ea ex ey ez h = let n : ◌≡◌ {A = ℕ} 0 1 = cc in absurd (omega arith)
+    go true true (Some x) (Some y) (Some z) true ea ex ey ez h = let n : ◌≡◌ {A = ℕ} 0 1 = cc in absurd (omega arith)
+    go true true (Some x) (Some y) (Some z) false ea ex ey ez h =
         let e : record { size = size; desc = x; avail = y; used = z } ≡ q = cc in
         rw (← e)
         (record {
@@ -116,30 +117,15 @@ module _ (s : List ℕ) (q : Queue) (c g start : ℕ) (l : state_words ≤ lengt
       (both_true (queue_ok (queue_set s q c g start)) _ (queue-enabled i hc hg hs) phase-enabled)
 
 -- a refusal of the areas is no 0
-placed-code : (q : ℕ) (x y z : Found) (t : Bool) (n : ℕ) → placed q x y z t ≡ Refused n → n ≡ 0 → ⊥
-unfolding placed
-placed-code q Nothing y z t n e h = let k : ◌≡◌ {A = ℕ} n 27 = cc in omega arith
-placed-code q (At x) Nothing z t n e h = let k : ◌≡◌ {A = ℕ} n 27 = cc in omega arith
-placed-code q (At x) (At y) Nothing t n e h = let k : ◌≡◌ {A = ℕ} n 27 = cc in omega arith
-placed-code q (At x) (At y) (At z) true n e h = let k : ◌≡◌ {A = ℕ} n 28 = cc in omega arith
-placed-code q (At x) (At y) (At z) false n e h = let k : ◌≡◌ {A = ℕ} 0 1 = cc in omega arith
-
-pub refused-code : (rs : List Region) (size desc avail used n : ℕ) → areas rs size desc avail used ≡ Refused n → n ≡ 0 → ⊥
-unfolding areas
-refused-code rs size desc avail used n =
-    let P : Areas → Type 0 = λ x. x ≡ Refused n → n ≡ 0 → ⊥ in
-    on P (queue_size_ok size)
-    (λ a. on P (aligned desc avail used)
-    (λ b. placed-code size (locate rs desc (16 * size)) (locate rs avail (6 + 2 * size)) (locate rs used (6 + 8 * size)) (entangled size desc avail used) n)
-    (λ b e h. let k : ◌≡◌ {A = ℕ} n 26 = cc in omega arith))
-    (λ a e h. let k : ◌≡◌ {A = ℕ} n 25 = cc in omega arith)
+pub refused-code : (rs : List Region) (size desc avail used : ℕ) (n : Refusal) → areas rs size desc avail used ≡ Err n → number n ≡ 0 → ⊥
+refused-code rs size desc avail used n e h = number-some n h
 
 -- hd_enable_at answered 0: the queue is enabled
-enabled-areas : (s : List ℕ) (c g start : ℕ) (x : Areas) (size desc avail used : ℕ) → state_words ≤ length s → level s ≡ 2 → areas (regions (map_words s)) size desc avail used ≡ x
+enabled-areas : (s : List ℕ) (c g start : ℕ) (x : Result Queue Refusal) (size desc avail used : ℕ) → state_words ≤ length s → level s ≡ 2 → areas (regions (map_words s)) size desc avail used ≡ x
     → (enabled_with s c g start x).code ≡ 0 → level (enabled_with s c g start x).state ≡ 3
 unfolding enabled_with
-enabled-areas s c g start (Refused n) size desc avail used l h e = λ z. absurd (refused-code (regions (map_words s)) size desc avail used n e z)
-enabled-areas s c g start (Placed q) size desc avail used l h e =
+enabled-areas s c g start (Err n) size desc avail used l h e = λ z. absurd (refused-code (regions (map_words s)) size desc avail used n e z)
+enabled-areas s c g start (Ok q) size desc avail used l h e =
     let P : Set → Type 0 = λ x. x.code ≡ 0 → level x.state ≡ 3 in
     let m = memory-ok s (level-two s h) in
     on P (ltb c (2 * q.size)) (λ f z. absurd (omega arith))

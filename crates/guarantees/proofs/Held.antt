@@ -20,8 +20,8 @@ use Rattle.model.specs.declared.Desc.{Desc}
 use Rattle.model.specs.declared.Tested.{Tested}
 use Rattle.model.specs.declared.Tested.TheVariants.{Bad, Next, Last}
 use Rattle.model.specs.declared.Queue.{Queue}
-use Rattle.model.specs.declared.Areas.{Areas}
-use Rattle.model.specs.declared.Areas.TheVariants.{Refused, Placed}
+use Rattle.std.specs.Prelude.{Result, Ok, Err}
+use Rattle.model.specs.declared.Refusal.{Refusal}
 use Rattle.model.specs.declared.Phase.{Phase}
 use Rattle.model.specs.declared.Phase.TheVariants.{Poll, Entry, Chain, Header, Payload, Answer, Publish, Broken}
 use Rattle.device.specs.Turn.{cfg_of}
@@ -66,11 +66,11 @@ chain_held s mem backing chain stage i h =
     (λ g. chained-low (cfg_of (config_at s) (map_words s)) chain (phase_of (row_at s)) _ i h)
 
 -- enabling that is answered 0 was told of two words for each descriptor ..
-enabled-lent : (s : List ℕ) (c g start : ℕ) (rs : List Region) (size desc avail used : ℕ) (x : Areas) → areas rs size desc avail used ≡ x
+enabled-lent : (s : List ℕ) (c g start : ℕ) (rs : List Region) (size desc avail used : ℕ) (x : Result Queue Refusal) → areas rs size desc avail used ≡ x
     → (enabled_with s c g start x).code ≡ 0 → 2 * size ≤ c
 unfolding enabled_with
-enabled-lent s c g start rs size desc avail used (Refused n) e = λ z. absurd (refused-code rs size desc avail used n e z)
-enabled-lent s c g start rs size desc avail used (Placed q) e =
+enabled-lent s c g start rs size desc avail used (Err n) e = λ z. absurd (refused-code rs size desc avail used n e z)
+enabled-lent s c g start rs size desc avail used (Ok q) e =
     let P : Set → Type 0 = λ x. x.code ≡ 0 → 2 * size ≤ c in
     on P (ltb c (2 * q.size)) (λ f z. absurd (omega arith)) (λ f z. omega (arith, ltb-false c (2 * q.size) f, areas-size rs size desc avail used q e))
 
@@ -85,7 +85,7 @@ enable-lent s size desc avail used c g start =
 
 -- .. and with less it answers 42 and changes nothing, where the areas are in order
 pub enable-short : (s : List ℕ) (size desc avail used c g start : ℕ) (q : Queue) → state_words ≤ length s → level s ≡ 2
-    → areas (regions (map_words s)) size desc avail used ≡ Placed q → c < 2 * size → hd_enable_at s size desc avail used c g start ≡ told 42 s
+    → areas (regions (map_words s)) size desc avail used ≡ Ok q → c < 2 * size → hd_enable_at s size desc avail used c g start ≡ told 42 s
 unfolding hd_enable_at enabled_with
 enable-short s size desc avail used c g start q l h e f =
     rw (le-ltb (length s) state_words l, eq-eqb (level s) 2 h, e, lt-ltb c (2 * q.size) (omega (arith, areas-size (regions (map_words s)) size desc avail used q e)))

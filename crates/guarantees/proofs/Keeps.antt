@@ -24,8 +24,7 @@ use Rattle.model.proofs.Chain.{bad-reason, tally-same}
 use Rattle.model.proofs.Words.{word_below}
 use Rattle.guarantees.specs.Good.{before, Spot, WalkGood, Next, Good}
 use Rattle.guarantees.proofs.Good.{before-le, before-next, spot-some, next-left}
-use Rattle.model.specs.declared.Found.{Found}
-use Rattle.model.specs.declared.Found.TheVariants.{At, Nothing}
+use Rattle.std.specs.Prelude.{Option, Some, None}
 use Rattle.model.specs.declared.Desc.{Desc}
 use Rattle.model.specs.declared.Tested.{Tested}
 use Rattle.model.specs.declared.Tested.TheVariants.{Bad, Next as Goes, Last}
@@ -53,30 +52,30 @@ keeps_entry rs q sectors chain head h =
 -- what a descriptor's tests tell, if it is held
 record Kept (rs : List Region) (q : ℕ) (k : Walk) (d : Desc) (x : ℕ) : Type 0 where
   pub room : k.count < q
-  pub placed : locate rs d.addr d.len ≡ At x
+  pub placed : locate rs d.addr d.len ≡ Some x
   pub in_order : both (ltb d.flags 2) (ltb k.reads k.count) ≡ false
 
-kept_next : (a s e : Bool) (f : Found) (l n g : Bool) (x : ℕ) → tested_by a s e f l n g ≡ Goes x → (a ≡ false) × (f ≡ At x) × (l ≡ false) × (g ≡ false)
+kept_next : (a s e : Bool) (f : Option ℕ) (l n g : Bool) (x : ℕ) → tested_by a s e f l n g ≡ Goes x → (a ≡ false) × (f ≡ Some x) × (l ≡ false) × (g ≡ false)
 unfolding tested_by
 kept_next true s e f l n g x h = let z : ◌≡◌ {A = ℕ} 0 1 = cc in absurd (omega arith)
 kept_next false true e f l n g x h = let z : ◌≡◌ {A = ℕ} 0 1 = cc in absurd (omega arith)
 kept_next false false true f l n g x h = let z : ◌≡◌ {A = ℕ} 0 1 = cc in absurd (omega arith)
-kept_next false false false Nothing l n g x h = let z : ◌≡◌ {A = ℕ} 0 1 = cc in absurd (omega arith)
-kept_next false false false (At y) true n g x h = let z : ◌≡◌ {A = ℕ} 0 1 = cc in absurd (omega arith)
-kept_next false false false (At y) false true g x h = let z : ◌≡◌ {A = ℕ} 0 1 = cc in absurd (omega arith)
-kept_next false false false (At y) false false true x h = let z : ◌≡◌ {A = ℕ} 0 1 = cc in absurd (omega arith)
-kept_next false false false (At y) false false false x h = (refl, cc, refl, refl)
+kept_next false false false None l n g x h = let z : ◌≡◌ {A = ℕ} 0 1 = cc in absurd (omega arith)
+kept_next false false false (Some y) true n g x h = let z : ◌≡◌ {A = ℕ} 0 1 = cc in absurd (omega arith)
+kept_next false false false (Some y) false true g x h = let z : ◌≡◌ {A = ℕ} 0 1 = cc in absurd (omega arith)
+kept_next false false false (Some y) false false true x h = let z : ◌≡◌ {A = ℕ} 0 1 = cc in absurd (omega arith)
+kept_next false false false (Some y) false false false x h = (refl, cc, refl, refl)
 
-kept-last : (a s e : Bool) (f : Found) (l n g : Bool) (x : ℕ) → tested_by a s e f l n g ≡ Last x → (a ≡ false) × (f ≡ At x) × (l ≡ false)
+kept-last : (a s e : Bool) (f : Option ℕ) (l n g : Bool) (x : ℕ) → tested_by a s e f l n g ≡ Last x → (a ≡ false) × (f ≡ Some x) × (l ≡ false)
 unfolding tested_by
 kept-last true s e f l n g x h = let z : ◌≡◌ {A = ℕ} 0 1 = cc in absurd (omega arith)
 kept-last false true e f l n g x h = let z : ◌≡◌ {A = ℕ} 0 1 = cc in absurd (omega arith)
 kept-last false false true f l n g x h = let z : ◌≡◌ {A = ℕ} 0 1 = cc in absurd (omega arith)
-kept-last false false false Nothing l n g x h = let z : ◌≡◌ {A = ℕ} 0 1 = cc in absurd (omega arith)
-kept-last false false false (At y) true n g x h = let z : ◌≡◌ {A = ℕ} 0 1 = cc in absurd (omega arith)
-kept-last false false false (At y) false true g x h = (refl, cc, refl)
-kept-last false false false (At y) false false true x h = let z : ◌≡◌ {A = ℕ} 0 1 = cc in absurd (omega arith)
-kept-last false false false (At y) false false false x h = let z : ◌≡◌ {A = ℕ} 0 1 = cc in absurd (omega arith)
+kept-last false false false None l n g x h = let z : ◌≡◌ {A = ℕ} 0 1 = cc in absurd (omega arith)
+kept-last false false false (Some y) true n g x h = let z : ◌≡◌ {A = ℕ} 0 1 = cc in absurd (omega arith)
+kept-last false false false (Some y) false true g x h = (refl, cc, refl)
+kept-last false false false (Some y) false false true x h = let z : ◌≡◌ {A = ℕ} 0 1 = cc in absurd (omega arith)
+kept-last false false false (Some y) false false false x h = let z : ◌≡◌ {A = ℕ} 0 1 = cc in absurd (omega arith)
 
 -- the private chain with one buffer more
 held-old : (chain : List ℕ) (n x l j : ℕ) → j < 2 * n → get_or (held chain n x l) j 0 ≡ get_or chain j 0

@@ -29,10 +29,9 @@ use Rattle.guarantees.proofs.Step.{by-step}
 use Rattle.guarantees.proofs.Keeps.{keeps-next}
 use Rattle.guarantees.proofs.Open.{keeps-open}
 use Rattle.guarantees.proofs.Good.{good-ready}
-use Rattle.model.specs.declared.Found.{Found}
-use Rattle.model.specs.declared.Found.TheVariants.{At, Nothing}
-use Rattle.model.specs.declared.Areas.{Areas}
-use Rattle.model.specs.declared.Areas.TheVariants.{Refused, Placed}
+use Rattle.std.specs.Prelude.{Option, Some, None, Result, Ok, Err}
+use Rattle.model.specs.declared.Refusal.{Refusal}
+use Rattle.model.specs.declared.Refusal.TheVariants.{QueueSize, Misaligned}
 use Rattle.model.specs.declared.Queue.{Queue}
 use Rattle.model.specs.declared.Phase.{Phase}
 use Rattle.model.specs.declared.Phase.TheVariants.{Poll}
@@ -86,22 +85,22 @@ level-tag s h =
     eqb-true (get_or s level_word 0) 3 (tower-tag (memory_ok s) (eqb (get_or s level_word 0) 1) (disk_ok s) (eqb (get_or s level_word 0) 2) (eqb (get_or s level_word 0) 3) (enabled_ok s) h)
 
 -- enabling: where the areas lie
-areas-placed : (rs : List Region) (size desc avail used : ℕ) (q : Queue) → areas rs size desc avail used ≡ Placed q
+areas-placed : (rs : List Region) (size desc avail used : ℕ) (q : Queue) → areas rs size desc avail used ≡ Ok q
     → Area rs q.desc (16 * q.size) × Area rs q.avail (6 + 2 * q.size) × Area rs q.used (6 + 8 * q.size)
 unfolding areas placed
 areas-placed rs size desc avail used q h =
     go (queue_size_ok size) (aligned desc avail used) (locate rs desc (16 * size)) (locate rs avail (6 + 2 * size)) (locate rs used (6 + 8 * size)) (entangled size desc avail used) refl refl refl h
   where
-    go : (a b : Bool) (x y z : Found) (t : Bool) → locate rs desc (16 * size) ≡ x → locate rs avail (6 + 2 * size) ≡ y → locate rs used (6 + 8 * size) ≡ z
-        → pick a (pick b (placed size x y z t) (Refused 26)) (Refused 25) ≡ Placed q
+    go : (a b : Bool) (x y z : Option ℕ) (t : Bool) → locate rs desc (16 * size) ≡ x → locate rs avail (6 + 2 * size) ≡ y → locate rs used (6 + 8 * size) ≡ z
+        → pick a (pick b (placed size x y z t) (Err Misaligned)) (Err QueueSize) ≡ Ok q
         → Area rs q.desc (16 * q.size) × Area rs q.avail (6 + 2 * q.size) × Area rs q.used (6 + 8 * q.size)
     go false b x y z t ex ey ez h = let n : ◌≡◌ {A = ℕ} 0 1 = cc in absurd (omega arith)
     go true false x y z t ex ey ez h = let n : ◌≡◌ {A = ℕ} 0 1 = cc in absurd (omega arith)
-    go true true Nothing y z t ex ey ez h = let n : ◌≡◌ {A = ℕ} 0 1 = cc in absurd (omega arith)
-    go true true (At x) Nothing z t ex ey ez h = let n : ◌≡◌ {A = ℕ} 0 1 = cc in absurd (omega arith)
-    go true true (At x) (At y) Nothing t ex ey ez h = let n : ◌≡◌ {A = ℕ} 0 1 = cc in absurd (omega arith)
-    go true true (At x) (At y) (At z) true ex ey ez h = let n : ◌≡◌ {A = ℕ} 0 1 = cc in absurd (omega arith)
-    go true true (At x) (At y) (At z) false ex ey ez h =
+    go true true None y z t ex ey ez h = let n : ◌≡◌ {A = ℕ} 0 1 = cc in absurd (omega arith)
+    go true true (Some x) None z t ex ey ez h = let n : ◌≡◌ {A = ℕ} 0 1 = cc in absurd (omega arith)
+    go true true (Some x) (Some y) None t ex ey ez h = let n : ◌≡◌ {A = ℕ} 0 1 = cc in absurd (omega arith)
+    go true true (Some x) (Some y) (Some z) true ex ey ez h = let n : ◌≡◌ {A = ℕ} 0 1 = cc in absurd (omega arith)
+    go true true (Some x) (Some y) (Some z) false ex ey ez h =
         let e : record { size = size; desc = x; avail = y; used = z } ≡ q = cc in
         rw (← e) (
           record { address = desc; in_one = locate-in rs desc (16 * size) x ex },
@@ -193,12 +192,12 @@ kept-disk s chain start sectors ro id b k =
     (λ f. k))
     (λ f. k))
 
-kept-enabled : (s chain : List ℕ) (c g start : ℕ) (x : Areas) (rs : List Region) (size desc avail used : ℕ) → state_words ≤ length s
+kept-enabled : (s chain : List ℕ) (c g start : ℕ) (x : Result Queue Refusal) (rs : List Region) (size desc avail used : ℕ) → state_words ≤ length s
     → areas (regions (map_words s)) size desc avail used ≡ x → (state_words ≤ length s → level s ≡ 3 → Made s chain)
     → state_words ≤ length (enabled_with s c g start x).state → level (enabled_with s c g start x).state ≡ 3 → Made (enabled_with s c g start x).state chain
 unfolding enabled_with
-kept-enabled s chain c g start (Refused n) rs size desc avail used l e k = k
-kept-enabled s chain c g start (Placed q) rs size desc avail used l e k =
+kept-enabled s chain c g start (Err n) rs size desc avail used l e k = k
+kept-enabled s chain c g start (Ok q) rs size desc avail used l e k =
     let P : Set → Type 0 = λ x. state_words ≤ length x.state → level x.state ≡ 3 → Made x.state chain in
     on P (ltb c (2 * q.size)) (λ f. k)
     (λ f. on P (ltb g 1048576) (λ f. k)

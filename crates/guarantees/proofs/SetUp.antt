@@ -11,8 +11,9 @@ use Rattle.model.specs.Request.{disk_code}
 use Rattle.model.proofs.Tests.{on}
 use Rattle.words.specs.Layout.{state_words, map_words, level}
 use Rattle.hostiledisk.specs.Calls.{Set, hd_memory, hd_disk, enabled_with, hd_enable_at}
-use Rattle.model.specs.declared.Areas.{Areas}
-use Rattle.model.specs.declared.Areas.TheVariants.{Refused, Placed}
+use Rattle.std.specs.Prelude.{Result, Ok, Err}
+use Rattle.model.specs.declared.Queue.{Queue}
+use Rattle.model.specs.declared.Refusal.{Refusal}
 
 -- refused, or done
 abbrev Keeps : List ℕ → Set → Type 0
@@ -31,10 +32,10 @@ disk-refused s start sectors ro id b =
     (λ e. on (Keeps s) (eqb (length id) 20) (λ e. on (Keeps s) (eqb (disk_code start sectors b) 0) (λ f n. absurd (n refl)) (λ f n. refl)) (λ e n. refl))
     (λ e n. refl))
 
-enabled-refused : (s : List ℕ) (c g start : ℕ) (x : Areas) → Keeps s (enabled_with s c g start x)
+enabled-refused : (s : List ℕ) (c g start : ℕ) (x : Result Queue Refusal) → Keeps s (enabled_with s c g start x)
 unfolding enabled_with
-enabled-refused s c g start (Refused n) = λ e. refl
-enabled-refused s c g start (Placed q) =
+enabled-refused s c g start (Err n) = λ e. refl
+enabled-refused s c g start (Ok q) =
     on (Keeps s) (ltb c (2 * q.size)) (λ e n. refl)
     (λ e. on (Keeps s) (ltb g 1048576) (λ e n. refl) (λ e. on (Keeps s) (leb 65536 start) (λ e n. refl) (λ e n. absurd (n refl))))
 

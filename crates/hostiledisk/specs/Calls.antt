@@ -1,14 +1,14 @@
 -- The C interface: what each call answers and leaves in every lent slice, tests in their order. A refusal touches nothing.
-use Rattle.std.specs.Prelude.{ℕ, ◌+◌, ◌*◌, ◌/◌, ◌≤◌, Bool, true, false, List, [], ◌∷◌, ◌++◌, ◌≡◌, leb, ltb, eqb, get_or, length, set}
+use Rattle.std.specs.Prelude.{ℕ, ◌+◌, ◌*◌, ◌/◌, ◌≤◌, Bool, true, false, List, [], ◌∷◌, ◌++◌, ◌≡◌, leb, ltb, eqb, get_or, length, set, Result, Ok, Err}
 use Rattle.model.specs.Pick.{pick, both}
 use Rattle.model.specs.Bytes.{put, word}
 use Rattle.model.specs.Memory.{regions, memory_code}
 use Rattle.model.specs.Ring.{queue_size_ok, areas, elsewhere}
 use Rattle.model.specs.Request.{disk_code}
+use Rattle.model.specs.SetUp.{number}
 use Rattle.model.specs.Step.{Out, step}
 use Rattle.model.specs.Sane.{sane, ready}
-use Rattle.model.specs.declared.Areas.{Areas}
-use Rattle.model.specs.declared.Areas.TheVariants.{Refused, Placed}
+use Rattle.model.specs.declared.Refusal.{Refusal}
 use Rattle.model.specs.declared.Phase.{Phase}
 use Rattle.model.specs.declared.Phase.TheVariants.{Poll, Entry, Chain, Header, Payload, Answer, Publish, Broken}
 use Rattle.hostiledisk.specs.declared.Seen.{Seen}
@@ -61,9 +61,9 @@ queue_words q chain stage start = q.size ∷ q.desc ∷ q.avail ∷ q.used ∷ c
 unfoldable pub queue_set : List ℕ → Queue → ℕ → ℕ → ℕ → List ℕ
 queue_set s q chain stage start = put (set s level_word 3) size_word (queue_words q chain stage start)
 
-unfoldable pub enabled_with : List ℕ → ℕ → ℕ → ℕ → Areas → Set
-enabled_with s chain stage start (Refused n) = told n s
-enabled_with s chain stage start (Placed q) =
+unfoldable pub enabled_with : List ℕ → ℕ → ℕ → ℕ → Result Queue Refusal → Set
+enabled_with s chain stage start (Err e) = told (number e) s
+enabled_with s chain stage start (Ok q) =
     pick (ltb chain (2 * q.size)) (told 42 s)
     (pick (ltb stage 1048576) (told 43 s)
     (pick (leb 65536 start) (told 46 s)

@@ -53,7 +53,7 @@ pub fn hd_stage_bytes() -> usize
     1048576
 }
 
-#[tactic(auto, using(model::proofs::Tests::tests), unfolding(crate::specs::Calls::hd_memory))]
+#[tactic(auto, using(model::proofs::SetUp::refusals), unfolding(crate::specs::Calls::hd_memory))]
 pub fn hd_memory(state: &mut [usize], map: &[usize], mem_len: usize) -> usize
     ensures value { result ≡ (hd_memory state.old map.now mem_len).code }
     ensures state_after { state.new ≡ (hd_memory state.old map.now mem_len).state }
@@ -61,15 +61,16 @@ pub fn hd_memory(state: &mut [usize], map: &[usize], mem_len: usize) -> usize
     if state.len() < STATE_WORDS {
         return 40;
     }
-    let code = regions::memory_code(mem_len, map);
-    if code != 0 {
-        return code;
+    match regions::check_map(mem_len, map) {
+        Ok(()) => {
+            set_up::note_memory(state, map, mem_len);
+            0
+        }
+        Err(e) => e.number(),
     }
-    set_up::note_memory(state, map, mem_len);
-    0
 }
 
-#[tactic(auto, using(model::proofs::Tests::tests), unfolding(crate::specs::Calls::hd_disk))]
+#[tactic(auto, using(model::proofs::SetUp::refusals), unfolding(crate::specs::Calls::hd_disk))]
 pub fn hd_disk(
     state: &mut [usize],
     start: usize,
@@ -94,15 +95,16 @@ pub fn hd_disk(
     if id.len() != 20 {
         return 44;
     }
-    let code = disk::disk_code(start, sectors, backing_len);
-    if code != 0 {
-        return code;
+    match disk::check_disk(start, sectors, backing_len) {
+        Ok(()) => {
+            set_up::note_disk(state, start, sectors, read_only, id, backing_len);
+            0
+        }
+        Err(e) => e.number(),
     }
-    set_up::note_disk(state, start, sectors, read_only, id, backing_len);
-    0
 }
 
-#[tactic(auto, using(model::proofs::Tests::tests), unfolding(crate::specs::Calls::hd_enable_at))]
+#[tactic(auto, using(model::proofs::SetUp::refusals), unfolding(crate::specs::Calls::hd_enable_at))]
 pub fn hd_enable_at(
     state: &mut [usize],
     size: usize,
@@ -124,7 +126,10 @@ pub fn hd_enable_at(
         return 41;
     }
     let found = set_up::areas(view, size, desc, avail, used);
-    set_up::enable(state, chain_len, stage_len, start, found)
+    match set_up::enable(state, chain_len, stage_len, start, found) {
+        Ok(()) => 0,
+        Err(e) => e.number(),
+    }
 }
 
 pub fn hd_enable(

@@ -4,10 +4,11 @@ ghost use Rattle.std.specs.Prelude.{◌≡◌, true, ◌∷◌, ◌+◌, ◌*◌
 ghost use Rattle.model.specs.Bytes.{put};
 ghost use Rattle.model.specs.Memory.{regions, regions_max};
 ghost use Rattle.model.specs.Ring.{areas};
+ghost use Rattle.model.specs.SetUp.{answer_of};
 ghost use Rattle.words.specs.Layout.{state_words, memory_ok, map_words};
 ghost use Rattle.hostiledisk.specs.Calls.{flag, memory_set, disk_set, queue_set, enabled_with};
 
-use model::{Areas, Phase, Queue};
+use model::{Phase, Queue, Refusal};
 use words::{State, at};
 
 pub fn note_memory(state: &mut [usize], map: &[usize], m: usize)
@@ -44,7 +45,13 @@ pub fn note_disk(
 }
 
 // Where the areas of a queue would lie in the registered memory.
-pub fn areas(state: State, size: usize, desc: usize, avail: usize, used: usize) -> Areas
+pub fn areas(
+    state: State,
+    size: usize,
+    desc: usize,
+    avail: usize,
+    used: usize,
+) -> Result<Queue, Refusal>
     requires { memory_ok state.words.now ≡ true }
     ensures { result ≡ areas (regions (map_words state.entry.words.now)) size desc avail used }
 {
@@ -74,26 +81,28 @@ fn note_queue(state: &mut [usize], q: Queue, chain: usize, stage: usize, start: 
     words::save(state, start, start, 0, Phase::Poll);
 }
 
-#[tactic(auto, using(model::proofs::Tests::tests), unfolding(crate::specs::Calls::enabled_with))]
-pub fn enable(state: &mut [usize], chain: usize, stage: usize, start: usize, found: Areas) -> usize
+#[tactic(auto, using(model::proofs::SetUp::refusals), unfolding(crate::specs::Calls::enabled_with))]
+pub fn enable(
+    state: &mut [usize],
+    chain: usize,
+    stage: usize,
+    start: usize,
+    found: Result<Queue, Refusal>,
+) -> Result<(), Refusal>
     requires { state_words ≤ length state.old }
-    ensures value { result ≡ (enabled_with state.old chain stage start found).code }
+    ensures value { answer_of result ≡ (enabled_with state.old chain stage start found).code }
     ensures state_after { state.new ≡ (enabled_with state.old chain stage start found).state }
 {
-    match found {
-        Areas::Refused(code) => code,
-        Areas::Placed(q) => {
-            if chain / 2 < q.size {
-                return 42;
-            }
-            if stage < 1048576 {
-                return 43;
-            }
-            if 65536 <= start {
-                return 46;
-            }
-            note_queue(state, q, chain, stage, start);
-            0
-        }
+    let q = found?;
+    if chain / 2 < q.size {
+        return Err(Refusal::ChainMemory);
     }
+    if stage < 1048576 {
+        return Err(Refusal::StagingMemory);
+    }
+    if 65536 <= start {
+        return Err(Refusal::StartCount);
+    }
+    note_queue(state, q, chain, stage, start);
+    Ok(())
 }

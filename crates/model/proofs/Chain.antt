@@ -7,8 +7,7 @@ use lib.Dec.{leb, ltb}
 use Rattle.model.specs.Pick.{pick}
 use Rattle.model.specs.Chain.{tested_by, tally, complete, described, descs_after}
 use Rattle.model.proofs.Tests.{on}
-use Rattle.model.specs.declared.Found.{Found}
-use Rattle.model.specs.declared.Found.TheVariants.{At, Nothing}
+use Rattle.std.specs.Prelude.{Option, Some, None}
 use Rattle.model.specs.declared.Desc.{Desc}
 use Rattle.model.specs.declared.Walk.{Walk}
 use Rattle.model.specs.declared.Job.TheVariants.{Failed}
@@ -17,27 +16,27 @@ use Rattle.model.specs.declared.Tested.{Tested}
 use Rattle.model.specs.declared.Tested.TheVariants.{Bad, Next, Last}
 
 -- a descriptor that is held is not one too many
-pub next-room : (a s e : Bool) (f : Found) (l n g : Bool) (x : ℕ) → tested_by a s e f l n g ≡ Next x → a ≡ false
+pub next-room : (a s e : Bool) (f : Option ℕ) (l n g : Bool) (x : ℕ) → tested_by a s e f l n g ≡ Next x → a ≡ false
 unfolding tested_by
 next-room true s e f l n g x h = let z : ◌≡◌ {A = ℕ} 0 1 = cc in absurd (omega arith)
 next-room false s e f l n g x h = refl
 
-pub last-room : (a s e : Bool) (f : Found) (l n g : Bool) (x : ℕ) → tested_by a s e f l n g ≡ Last x → a ≡ false
+pub last-room : (a s e : Bool) (f : Option ℕ) (l n g : Bool) (x : ℕ) → tested_by a s e f l n g ≡ Last x → a ≡ false
 unfolding tested_by
 last-room true s e f l n g x h = let z : ◌≡◌ {A = ℕ} 0 1 = cc in absurd (omega arith)
 last-room false s e f l n g x h = refl
 
 -- a refused one has a reason from 2 to 7; 8 is a whole chain's
-pub bad-reason : (a s e : Bool) (f : Found) (l n g : Bool) (r : ℕ) → tested_by a s e f l n g ≡ Bad r → (1 ≤ r) × (r ≤ 7)
+pub bad-reason : (a s e : Bool) (f : Option ℕ) (l n g : Bool) (r : ℕ) → tested_by a s e f l n g ≡ Bad r → (1 ≤ r) × (r ≤ 7)
 unfolding tested_by
 bad-reason true s e f l n g r h = let z : ◌≡◌ {A = ℕ} r 3 = cc in omega arith
 bad-reason false true e f l n g r h = let z : ◌≡◌ {A = ℕ} r 4 = cc in omega arith
 bad-reason false false true f l n g r h = let z : ◌≡◌ {A = ℕ} r 5 = cc in omega arith
-bad-reason false false false Nothing l n g r h = let z : ◌≡◌ {A = ℕ} r 6 = cc in omega arith
-bad-reason false false false (At y) true n g r h = let z : ◌≡◌ {A = ℕ} r 7 = cc in omega arith
-bad-reason false false false (At y) false true g r h = let z : ◌≡◌ {A = ℕ} 0 1 = cc in absurd (omega arith)
-bad-reason false false false (At y) false false true r h = let z : ◌≡◌ {A = ℕ} r 2 = cc in omega arith
-bad-reason false false false (At y) false false false r h = let z : ◌≡◌ {A = ℕ} 0 1 = cc in absurd (omega arith)
+bad-reason false false false None l n g r h = let z : ◌≡◌ {A = ℕ} r 6 = cc in omega arith
+bad-reason false false false (Some y) true n g r h = let z : ◌≡◌ {A = ℕ} r 7 = cc in omega arith
+bad-reason false false false (Some y) false true g r h = let z : ◌≡◌ {A = ℕ} 0 1 = cc in absurd (omega arith)
+bad-reason false false false (Some y) false false true r h = let z : ◌≡◌ {A = ℕ} r 2 = cc in omega arith
+bad-reason false false false (Some y) false false false r h = let z : ◌≡◌ {A = ℕ} 0 1 = cc in absurd (omega arith)
 
 -- a descriptor more, and the same head
 pub tally-same : (k : Walk) (flags len : ℕ) → ((tally k flags len).head ≡ k.head) × ((tally k flags len).count ≡ k.count + 1)

@@ -6,7 +6,7 @@ use mathlib.Core.List.{List, [], ◌∷◌}
 use Rattle.model.specs.Bytes.{put, word, bytes}
 use Rattle.model.specs.Memory.{regions, region_code, overlap, clash, regions_code, memory_code, contains, locate}
 use Rattle.model.specs.Ring.{among, queue_size_ok}
-use Rattle.model.specs.declared.Found.TheVariants.{At, Nothing}
+use Rattle.std.specs.Prelude.{Some, None}
 
 -- the region of 01 §6: guest 0x80000000, 65,536 bytes, at the slice's start
 abbrev one : List ℕ
@@ -22,32 +22,32 @@ single zero = []
 single (suc n) = n ∷ 1 ∷ 0 ∷ single n
 
 -- a + n is 2^64 + 512; a sum that wrapped would be 512
-pub no-sum-wraps : locate (regions one) (2 ^ 64 - 1) 513 ≡ Nothing
+pub no-sum-wraps : locate (regions one) (2 ^ 64 - 1) 513 ≡ None
 unfolding regions contains locate
 no-sum-wraps = refl
 
 -- 01 §6, buffers of 513 bytes: at 0x8000fdff one ends at the region's last byte; at 0x8000fe00 it ends one byte later
-pub last_byte : (locate (regions one) 2147548671 513 ≡ At 65023) × (locate (regions one) 2147548672 513 ≡ Nothing)
+pub last_byte : (locate (regions one) 2147548671 513 ≡ Some 65023) × (locate (regions one) 2147548672 513 ≡ None)
 unfolding regions contains locate
 last_byte = (refl, refl)
 
 -- the region's first byte, and one byte before it
-pub first_byte : (locate (regions one) 2147483648 1 ≡ At 0) × (locate (regions one) 2147483647 513 ≡ Nothing)
+pub first_byte : (locate (regions one) 2147483648 1 ≡ Some 0) × (locate (regions one) 2147483647 513 ≡ None)
 unfolding regions contains locate
 first_byte = (refl, refl)
 
 -- all of the region, and a length that no region has
-pub whole-region : (locate (regions one) 2147483648 65536 ≡ At 0) × (locate (regions one) 2147483648 (2 ^ 32 - 1) ≡ Nothing)
+pub whole-region : (locate (regions one) 2147483648 65536 ≡ Some 0) × (locate (regions one) 2147483648 (2 ^ 32 - 1) ≡ None)
 unfolding regions contains locate
 whole-region = (refl, refl)
 
 -- a range of no bytes is nowhere, even at an address in memory
-pub no_bytes : locate (regions one) 2147483648 0 ≡ Nothing
+pub no_bytes : locate (regions one) 2147483648 0 ≡ None
 unfolding regions contains locate
 no_bytes = refl
 
 -- 400 bytes from 8000 on span two adjoining regions; each half by itself is in memory
-pub spans-two : (locate (regions two) 8000 400 ≡ Nothing) × (locate (regions two) 8000 192 ≡ At 3904) × (locate (regions two) 8192 208 ≡ At 4096)
+pub spans-two : (locate (regions two) 8000 400 ≡ None) × (locate (regions two) 8000 192 ≡ Some 3904) × (locate (regions two) 8192 208 ≡ Some 4096)
 unfolding regions contains locate
 spans-two = (refl, refl, refl)
 

@@ -1,6 +1,7 @@
 pub mod Tests
 pub mod Lists
 pub mod Words
+pub mod SetUp
 pub mod Memory
 pub mod Edges
 pub mod Ring

@@ -11,7 +11,7 @@ use lib.Seq.{drop-cons}
 use borrow.Author.Tests.{leb-true, ltb-false, eqb-true, eqb-false, le-leb, lt-leb}
 use Rattle.model.specs.Pick.{pick, both}
 use Rattle.model.specs.Memory.{Region, region, regions, region_code, overlap, clash, regions_code, memory_code, sound, contains, locate, regions_max}
-use Rattle.model.specs.declared.Found.TheVariants.{At, Nothing}
+use Rattle.std.specs.Prelude.{Some, None}
 use Rattle.model.proofs.Tests.{told, passed, both_l, both_r, both-split}
 use Rattle.model.proofs.Lists.{Disjoint, first, after}
 
@@ -92,13 +92,13 @@ contains-within r a n t =
     }
 
 -- a located range lies inside one region
-pub locate-in : (rs : List Region) (a n x : ℕ) → locate rs a n ≡ At x → InOne rs a n x
+pub locate-in : (rs : List Region) (a n x : ℕ) → locate rs a n ≡ Some x → InOne rs a n x
 unfolding locate
 locate-in [] a n x e = let z : ◌≡◌ {A = ℕ} 0 1 = cc in absurd (omega arith)
 locate-in (r ∷ rest) a n x e = split (contains r.guest r.len a n) refl e (λ k. locate-in rest a n x k)
   where
-    split : (b : Bool) → contains r.guest r.len a n ≡ b → pick b (At (r.place + (a - r.guest))) (locate rest a n) ≡ At x
-        → (locate rest a n ≡ At x → InOne rest a n x) → InOne (r ∷ rest) a n x
+    split : (b : Bool) → contains r.guest r.len a n ≡ b → pick b (Some (r.place + (a - r.guest))) (locate rest a n) ≡ Some x
+        → (locate rest a n ≡ Some x → InOne rest a n x) → InOne (r ∷ rest) a n x
     split true t k f = let q : r.place + (a - r.guest) ≡ x = cc in here (rw q at (contains-within r a n t))
     split false t k f = later (f k)
 
@@ -109,7 +109,7 @@ in-slice m [] a n x s w = elim w [ ]
 in-slice m (r ∷ rest) a n x s (here w) = let k = region-sound m r (sound-head (region_code m r) (sound m rest) s).0 in omega arith
 in-slice m (r ∷ rest) a n x s (later w) = in-slice m rest a n x (sound-head (region_code m r) (sound m rest) s).1 w
 
-pub locate-slice : (m : ℕ) (rs : List Region) (a n x : ℕ) → sound m rs ≡ true → locate rs a n ≡ At x → x + n ≤ m
+pub locate-slice : (m : ℕ) (rs : List Region) (a n x : ℕ) → sound m rs ≡ true → locate rs a n ≡ Some x → x + n ≤ m
 locate-slice m rs a n x s e = in-slice m rs a n x s (locate-in rs a n x e)
 
 -- the other way round: a region contains each range that lies inside it ..
@@ -118,15 +118,15 @@ unfolding contains
 within-contains r a n x w = rw (le-leb 1 n w.some, le-leb r.guest a w.from, le-leb (a + n) (r.guest + r.len) w.to)
 
 -- .. so a range that is nowhere lies inside no region
-pub locate-out : (rs : List Region) (a n x : ℕ) → locate rs a n ≡ Nothing → InOne rs a n x → ⊥
+pub locate-out : (rs : List Region) (a n x : ℕ) → locate rs a n ≡ None → InOne rs a n x → ⊥
 unfolding locate
 locate-out [] a n x e w = elim w [ ]
 locate-out (r ∷ rest) a n x e (here w) =
-    let k : At (r.place + (a - r.guest)) ≡ Nothing = rw (within-contains r a n x w) at e in
+    let k : Some (r.place + (a - r.guest)) ≡ None = rw (within-contains r a n x w) at e in
     let z : ◌≡◌ {A = ℕ} 0 1 = cc in absurd (omega arith)
 locate-out (r ∷ rest) a n x e (later w) = split (contains r.guest r.len a n) e (λ k. locate-out rest a n x k w)
   where
-    split : (b : Bool) → pick b (At (r.place + (a - r.guest))) (locate rest a n) ≡ Nothing → (locate rest a n ≡ Nothing → ⊥) → ⊥
+    split : (b : Bool) → pick b (Some (r.place + (a - r.guest))) (locate rest a n) ≡ None → (locate rest a n ≡ None → ⊥) → ⊥
     split true k f = let z : ◌≡◌ {A = ℕ} 0 1 = cc in absurd (omega arith)
     split false k f = f k
 
@@ -193,7 +193,7 @@ regions-past ws i h = regions-end (drop (3 * i) ws) (simp length-drop (omega ari
 
 -- A region that fits ends the search ..
 pub locate-hit : (ws : List ℕ) (i a n : ℕ) → i < length ws / 3 → contains (get_or ws (3 * i) 0) (get_or ws (3 * i + 1) 0) a n ≡ true
-    → locate (regions (drop (3 * i) ws)) a n ≡ At (get_or ws (3 * i + 2) 0 + (a - get_or ws (3 * i) 0))
+    → locate (regions (drop (3 * i) ws)) a n ≡ Some (get_or ws (3 * i + 2) 0 + (a - get_or ws (3 * i) 0))
 unfolding locate
 locate-hit ws i a n h t = rw (regions-from ws i h, t)
 
@@ -204,12 +204,12 @@ unfolding locate
 locate-miss ws i a n h t = rw (regions-from ws i h, t)
 
 -- .. and there is none after the last
-pub locate-none : (ws : List ℕ) (i a n : ℕ) → length ws / 3 ≤ i → locate (regions (drop (3 * i) ws)) a n ≡ Nothing
+pub locate-none : (ws : List ℕ) (i a n : ℕ) → length ws / 3 ≤ i → locate (regions (drop (3 * i) ws)) a n ≡ None
 unfolding locate
 locate-none ws i a n h = rw (regions-past ws i h)
 
 -- no bytes are nowhere
-pub locate-empty : (rs : List Region) (a n : ℕ) → n < 1 → locate rs a n ≡ Nothing
+pub locate-empty : (rs : List Region) (a n : ℕ) → n < 1 → locate rs a n ≡ None
 unfolding locate contains
 locate-empty [] a n h = refl
 locate-empty (r ∷ rest) a n h = rw (lt-leb 1 n h) (locate-empty rest a n h)

@@ -9,10 +9,9 @@ use borrow.Author.Tests.{eqb-true}
 use Rattle.model.specs.Pick.{pick, both, either}
 use Rattle.model.specs.Memory.{Region, locate}
 use Rattle.model.specs.Ring.{sizes, size_max, among, queue_size_ok, desc_bytes, avail_bytes, used_bytes, aligned, entangled, placed, areas}
-use Rattle.model.specs.declared.Found.{Found}
-use Rattle.model.specs.declared.Found.TheVariants.{At, Nothing}
+use Rattle.std.specs.Prelude.{Option, Some, None, Ok, Err}
 use Rattle.model.specs.declared.Queue.{Queue}
-use Rattle.model.specs.declared.Areas.TheVariants.{Refused, Placed}
+use Rattle.model.specs.declared.Refusal.TheVariants.{QueueSize, Misaligned}
 use Rattle.model.proofs.Tests.{told, both-split}
 
 -- a test that each number of a list passes
@@ -43,18 +42,18 @@ size-range q e =
     (omega told, omega told)
 
 -- a queue that was placed has the size that was asked for
-pub areas-size : (rs : List Region) (size desc avail used : ℕ) (q : Queue) → areas rs size desc avail used ≡ Placed q → q.size ≡ size
+pub areas-size : (rs : List Region) (size desc avail used : ℕ) (q : Queue) → areas rs size desc avail used ≡ Ok q → q.size ≡ size
 unfolding areas placed
 areas-size rs size desc avail used q h =
     go (queue_size_ok size) (aligned desc avail used) (locate rs desc (desc_bytes size)) (locate rs avail (avail_bytes size)) (locate rs used (used_bytes size)) (entangled size desc avail used) h
   where
-    go : (a b : Bool) (x y z : Found) (t : Bool) → pick a (pick b (placed size x y z t) (Refused 26)) (Refused 25) ≡ Placed q → q.size ≡ size
+    go : (a b : Bool) (x y z : Option ℕ) (t : Bool) → pick a (pick b (placed size x y z t) (Err Misaligned)) (Err QueueSize) ≡ Ok q → q.size ≡ size
     go false b x y z t h = let n : ◌≡◌ {A = ℕ} 0 1 = cc in absurd (omega arith)
     go true false x y z t h = let n : ◌≡◌ {A = ℕ} 0 1 = cc in absurd (omega arith)
-    go true true Nothing y z t h = let n : ◌≡◌ {A = ℕ} 0 1 = cc in absurd (omega arith)
-    go true true (At x) Nothing z t h = let n : ◌≡◌ {A = ℕ} 0 1 = cc in absurd (omega arith)
-    go true true (At x) (At y) Nothing t h = let n : ◌≡◌ {A = ℕ} 0 1 = cc in absurd (omega arith)
-    go true true (At x) (At y) (At z) true h = let n : ◌≡◌ {A = ℕ} 0 1 = cc in absurd (omega arith)
-    go true true (At x) (At y) (At z) false h =
+    go true true None y z t h = let n : ◌≡◌ {A = ℕ} 0 1 = cc in absurd (omega arith)
+    go true true (Some x) None z t h = let n : ◌≡◌ {A = ℕ} 0 1 = cc in absurd (omega arith)
+    go true true (Some x) (Some y) None t h = let n : ◌≡◌ {A = ℕ} 0 1 = cc in absurd (omega arith)
+    go true true (Some x) (Some y) (Some z) true h = let n : ◌≡◌ {A = ℕ} 0 1 = cc in absurd (omega arith)
+    go true true (Some x) (Some y) (Some z) false h =
         let e : record { size = size; desc = x; avail = y; used = z } ≡ q = cc in
         rw (← e) refl

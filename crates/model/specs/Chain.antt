@@ -1,10 +1,8 @@
 -- The chain (01 §3): a descriptor's tests in their order, what is held of a chain, and S3.
-use Rattle.std.specs.Prelude.{ℕ, ◌+◌, ◌*◌, ◌%◌, Bool, true, false, List, [], ◌∷◌, leb, ltb, eqb}
+use Rattle.std.specs.Prelude.{ℕ, ◌+◌, ◌*◌, ◌%◌, Bool, true, false, List, [], ◌∷◌, leb, ltb, eqb, Option, Some, None}
 use Rattle.model.specs.Pick.{pick, both}
 use Rattle.model.specs.Bytes.{word, put}
 use Rattle.model.specs.Memory.{Region, locate}
-use Rattle.model.specs.declared.Found.{Found}
-use Rattle.model.specs.declared.Found.TheVariants.{At, Nothing}
 use Rattle.model.specs.declared.Desc.{Desc}
 use Rattle.model.specs.declared.Tested.{Tested}
 use Rattle.model.specs.declared.Tested.TheVariants.{Bad, Next, Last}
@@ -19,15 +17,15 @@ desc_at k m = record { addr = word 8 k m; len = word 4 (k + 8) m; flags = word 2
 
 -- "it would be number q + 1 of this chain: reason 3 · any flag but 1 and 2: reason 4 · len = 0: reason 5 · the buffer isn't in memory: reason 6
 -- · it is readable and stands after a writable one: reason 7 · it has NEXT and next is q or more: reason 2. No NEXT: the chain is complete."
-unfoldable pub tested_by : (many strange empty : Bool) → Found → (late last far : Bool) → Tested
+unfoldable pub tested_by : (many strange empty : Bool) → Option ℕ → (late last far : Bool) → Tested
 tested_by true s e f l n g = Bad 3
 tested_by false true e f l n g = Bad 4
 tested_by false false true f l n g = Bad 5
-tested_by false false false Nothing l n g = Bad 6
-tested_by false false false (At x) true n g = Bad 7
-tested_by false false false (At x) false true g = Last x
-tested_by false false false (At x) false false true = Bad 2
-tested_by false false false (At x) false false false = Next x
+tested_by false false false None l n g = Bad 6
+tested_by false false false (Some x) true n g = Bad 7
+tested_by false false false (Some x) false true g = Last x
+tested_by false false false (Some x) false false true = Bad 2
+tested_by false false false (Some x) false false false = Next x
 
 -- flags is 0 to 3 once the second test is passed: below 2 is readable, odd has NEXT
 unfoldable pub tested : List Region → ℕ → Walk → Desc → Tested

@@ -1,5 +1,6 @@
 pub mod Pick
 pub mod Bytes
+pub mod SetUp
 pub mod Memory
 pub mod Ring
 pub mod Chain

@@ -1,9 +1,7 @@
 -- Memory (01 §1): the regions that a host registers, what set-up refuses, and where a range of guest bytes lies in the slice.
 -- All sums are over ℕ, so none wraps.
-use Rattle.std.specs.Prelude.{ℕ, ◌+◌, ◌-◌, ◌^◌, ◌/◌, ◌%◌, Bool, true, false, List, [], ◌∷◌, ◌++◌, length, leb, ltb, eqb}
+use Rattle.std.specs.Prelude.{ℕ, ◌+◌, ◌-◌, ◌^◌, ◌/◌, ◌%◌, Bool, true, false, List, [], ◌∷◌, ◌++◌, length, leb, ltb, eqb, Option, Some, None}
 use Rattle.model.specs.Pick.{pick, both}
-use Rattle.model.specs.declared.Found.{Found}
-use Rattle.model.specs.declared.Found.TheVariants.{At, Nothing}
 
 -- "A region maps guest addresses g up to, not including, g + len to the slice's bytes from o up to o + len."
 pub record Region : Type 0 where
@@ -58,6 +56,6 @@ unfoldable pub contains : ℕ → ℕ → ℕ → ℕ → Bool
 contains g l a n = both (leb 1 n) (both (leb g a) (leb (a + n) (g + l)))
 
 -- where a range lies in the slice: in the first region that contains it
-unfoldable pub locate : List Region → ℕ → ℕ → Found
-locate [] a n = Nothing
-locate (r ∷ rest) a n = pick (contains r.guest r.len a n) (At (r.place + (a - r.guest))) (locate rest a n)
+unfoldable pub locate : List Region → ℕ → ℕ → Option ℕ
+locate [] a n = None
+locate (r ∷ rest) a n = pick (contains r.guest r.len a n) (Some (r.place + (a - r.guest))) (locate rest a n)

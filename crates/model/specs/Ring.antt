@@ -1,11 +1,10 @@
 -- The ring (01 §2, §3): the three areas, what enabling refuses, the two counters, and S1, S2.
-use Rattle.std.specs.Prelude.{ℕ, ◌+◌, ◌-◌, ◌*◌, ◌%◌, Bool, true, false, List, [], ◌∷◌, leb, ltb, eqb}
+use Rattle.std.specs.Prelude.{ℕ, ◌+◌, ◌-◌, ◌*◌, ◌%◌, Bool, true, false, List, [], ◌∷◌, leb, ltb, eqb, Option, Some, None, Result, Ok, Err}
 use Rattle.model.specs.Pick.{pick, both, either}
 use Rattle.model.specs.Memory.{Region, locate, overlap}
-use Rattle.model.specs.declared.Found.{Found}
-use Rattle.model.specs.declared.Found.TheVariants.{At, Nothing}
-use Rattle.model.specs.declared.Areas.{Areas}
-use Rattle.model.specs.declared.Areas.TheVariants.{Refused, Placed}
+use Rattle.model.specs.declared.Queue.{Queue}
+use Rattle.model.specs.declared.Refusal.{Refusal}
+use Rattle.model.specs.declared.Refusal.TheVariants.{QueueSize, Misaligned, NotInMemory, Entangled}
 use Rattle.model.specs.declared.Walk.{Walk}
 use Rattle.model.specs.declared.Phase.{Phase}
 use Rattle.model.specs.declared.Phase.TheVariants.{Poll, Entry, Chain, Broken}
@@ -44,21 +43,21 @@ entangled q desc avail used =
     either (overlap used (used_bytes q) avail (avail_bytes q)) (overlap used (used_bytes q) desc (desc_bytes q))
 
 -- "an area that isn't in memory (27)", then the overlap (28)
-unfoldable pub placed : ℕ → Found → Found → Found → Bool → Areas
-placed q Nothing a u o = Refused 27
-placed q (At x) Nothing u o = Refused 27
-placed q (At x) (At y) Nothing o = Refused 27
-placed q (At x) (At y) (At z) true = Refused 28
-placed q (At x) (At y) (At z) false = Placed (record { size = q; desc = x; avail = y; used = z })
+unfoldable pub placed : ℕ → Option ℕ → Option ℕ → Option ℕ → Bool → Result Queue Refusal
+placed q None a u o = Err NotInMemory
+placed q (Some x) None u o = Err NotInMemory
+placed q (Some x) (Some y) None o = Err NotInMemory
+placed q (Some x) (Some y) (Some z) true = Err Entangled
+placed q (Some x) (Some y) (Some z) false = Ok (record { size = q; desc = x; avail = y; used = z })
 
 -- "Enabling a queue refuses, in this order, a bad size (25), a misaligned area (26)", then as above
-unfoldable pub areas : List Region → ℕ → ℕ → ℕ → ℕ → Areas
+unfoldable pub areas : List Region → ℕ → ℕ → ℕ → ℕ → Result Queue Refusal
 areas rs q desc avail used =
     pick (queue_size_ok q)
     (pick (aligned desc avail used)
     (placed q (locate rs desc (desc_bytes q)) (locate rs avail (avail_bytes q)) (locate rs used (used_bytes q)) (entangled q desc avail used))
-    (Refused 26))
-    (Refused 25)
+    (Err Misaligned))
+    (Err QueueSize)
 
 -- "Entry numbers and indices count modulo 2^16": pending = (idx - taken) modulo 2^16
 unfoldable pub pending : ℕ → ℕ → ℕ

@@ -1,12 +1,8 @@
 // The types that the definitions and the code share. They hold what documents 01 and 03 name, and nothing else.
 #![tactic(auto)]
 
-// 01 §1: a range of guest bytes is in memory, at this offset of the slice, or it is not.
-#[derive(Clone, Copy)]
-pub enum Found {
-    At(usize),
-    Nothing,
-}
+ghost use Rattle.std.specs.Prelude.{◌≡◌};
+ghost use Rattle.model.specs.SetUp.{number};
 
 // 01 §2: a queue's size, and the slice offsets of its descriptors, available ring and used ring.
 #[derive(Clone, Copy)]
@@ -17,11 +13,33 @@ pub struct Queue {
     pub used: usize,
 }
 
-// What enabling a queue finds: a refusal (25 to 28), or where the areas lie.
-#[derive(Clone, Copy)]
-pub enum Areas {
-    Refused(usize),
-    Placed(Queue),
+// What set-up refuses: 01 §1 memory (20 to 24), 01 §2 enabling (25 to 28, and 42, 43, 46 of what is lent and begun with),
+// 03 §1 a disk (29, 30).
+#[derive(Clone, Copy, PartialEq, Eq)]
+pub enum Refusal {
+    RegionCount = 20,
+    EmptyRegion = 21,
+    LeavesSlice = 22,
+    LeavesAddresses = 23,
+    RegionsOverlap = 24,
+    QueueSize = 25,
+    Misaligned = 26,
+    NotInMemory = 27,
+    Entangled = 28,
+    Capacity = 29,
+    LeavesBacking = 30,
+    ChainMemory = 42,
+    StagingMemory = 43,
+    StartCount = 46,
+}
+
+impl Refusal {
+    // The number that C is answered.
+    pub fn number(self) -> usize
+        ensures { result ≡ number self }
+    {
+        self as usize
+    }
 }
 
 // 01 §2: a descriptor, as fetched.

@@ -4,29 +4,30 @@
 
 ghost use Rattle.std.specs.Prelude.{◌≡◌, ◌+◌, ◌≤◌, eqb, length, true};
 ghost use Rattle.model.specs.Bytes.{put};
+ghost use Rattle.model.specs.SetUp.{answer_of};
 ghost use Rattle.model.specs.Memory.{region, regions, region_code, overlap, clash, memory_code, sound, contains, locate};
 
-use model::Found;
+use model::Refusal;
 
 pub const REGIONS_MAX: usize = 32;
 
-// 21, 22, 23, or 0. No sum is made: each test subtracts what an earlier one allowed.
-pub fn region_code(m: usize, g: usize, l: usize, o: usize) -> usize
-    ensures { result ≡ region_code m (region g l o) }
+// 21, 22, 23, or none. No sum is made: each test subtracts what an earlier one allowed.
+pub fn check_region(m: usize, g: usize, l: usize, o: usize) -> Result<(), Refusal>
+    ensures { answer_of result ≡ region_code m (region g l o) }
 {
     if l == 0 {
-        return 21;
+        return Err(Refusal::EmptyRegion);
     }
     if m < l {
-        return 22; // longer than the slice
+        return Err(Refusal::LeavesSlice); // longer than the slice
     }
     if m - l < o {
-        return 22; // ends after it
+        return Err(Refusal::LeavesSlice); // ends after it
     }
     if 0xffff_ffff_ffff_ffff - l < g {
-        return 23;
+        return Err(Refusal::LeavesAddresses);
     }
-    0
+    Ok(())
 }
 
 pub fn overlaps(g: usize, l: usize, h: usize, k: usize) -> bool
@@ -58,37 +59,34 @@ fn clashes(seen: &[usize], g: usize, l: usize) -> bool
     false
 }
 
-// What set-up answers to these regions over a slice of m bytes: 0, or 20 to 24.
-pub fn memory_code(m: usize, map: &[usize]) -> usize
-    ensures { result ≡ memory_code m map.now }
+// What set-up refuses of these regions over a slice of m bytes: 20 to 24.
+pub fn check_map(m: usize, map: &[usize]) -> Result<(), Refusal>
+    ensures { answer_of result ≡ memory_code m map.now }
 {
     if map.len() % 3 != 0 {
-        return 20;
+        return Err(Refusal::RegionCount);
     }
     if map.len() / 3 < 1 {
-        return 20;
+        return Err(Refusal::RegionCount);
     }
     if REGIONS_MAX < map.len() / 3 {
-        return 20;
+        return Err(Refusal::RegionCount);
     }
     let mut i = 0;
     while i + 2 < map.len() {
-        let code = region_code(m, map[i], map[i + 1], map[i + 2]);
-        if code != 0 {
-            return code;
-        }
+        check_region(m, map[i], map[i + 1], map[i + 2])?;
         if clashes(&map[..i], map[i], map[i + 1]) {
-            return 24;
+            return Err(Refusal::RegionsOverlap);
         }
         i += 3;
     }
-    0
+    Ok(())
 }
 
 fn sound_one(m: usize, g: usize, l: usize, o: usize) -> bool
     ensures { result ≡ eqb (region_code m (region g l o)) 0 }
 {
-    region_code(m, g, l, o) == 0
+    check_region(m, g, l, o).is_ok()
 }
 
 // Is each region by itself one that set-up allows? What later calls test again of words that anybody may have spoilt.
@@ -126,23 +124,23 @@ fn holds(g: usize, l: usize, a: usize, n: usize) -> bool
 
 // In the first region that contains all n bytes from address a, if there is one.
 // An offset is always in the slice, since the sum is one that `all_sound` bounds.
-pub fn locate(map: &[usize], m: usize, a: usize, n: usize) -> Found
+pub fn locate(map: &[usize], m: usize, a: usize, n: usize) -> Option<usize>
     requires { sound m (regions map.now) ≡ true }
     ensures { result ≡ locate (regions map.now) a n }
 {
     if n < 1 {
-        return Found::Nothing;
+        return None;
     }
     let count = map.len() / 3;
     let mut i = 0;
     while i < count {
         let g = map[3 * i];
         if holds(g, map[3 * i + 1], a, n) {
-            return Found::At(map[3 * i + 2] + (a - g));
+            return Some(map[3 * i + 2] + (a - g));
         }
         i += 1;
     }
-    Found::Nothing
+    None
 }
 
 // The registered words, held in lent memory from `at` on.

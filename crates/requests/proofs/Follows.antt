@@ -11,8 +11,7 @@ use Rattle.model.specs.Pick.{both}
 use Rattle.model.specs.Memory.{Region, locate, sound}
 use Rattle.model.specs.Chain.{desc_at, tested_by, tested, tally, held, complete, described, descs_after, keeps}
 use Rattle.model.specs.Step.{Cfg, Span, Out, spans, code_after}
-use Rattle.model.specs.declared.Found.{Found}
-use Rattle.model.specs.declared.Found.TheVariants.{At, Nothing}
+use Rattle.std.specs.Prelude.{Option, Some, None}
 use Rattle.model.specs.declared.Desc.{Desc}
 use Rattle.model.specs.declared.Tested.{Tested}
 use Rattle.model.specs.declared.Tested.TheVariants.{Bad, Next, Last}
@@ -34,33 +33,33 @@ pub record Held (m q : ℕ) (chain : List ℕ) (rs ws : List Span) : Type 0 wher
   pub room : 2 * q ≤ length chain
 
 -- what a descriptor that is not refused has passed
-record Passed (many empty : Bool) (f : Found) (late : Bool) (x : ℕ) : Type 0 where
+record Passed (many empty : Bool) (f : Option ℕ) (late : Bool) (x : ℕ) : Type 0 where
   some_left : many ≡ false
   some_bytes : empty ≡ false
-  located : f ≡ At x
+  located : f ≡ Some x
   in_order : late ≡ false
 
-passed-next : (a s e : Bool) (f : Found) (l n g : Bool) (x : ℕ) → tested_by a s e f l n g ≡ Next x → Passed a e f l x
+passed-next : (a s e : Bool) (f : Option ℕ) (l n g : Bool) (x : ℕ) → tested_by a s e f l n g ≡ Next x → Passed a e f l x
 unfolding tested_by
 passed-next true s e f l n g x h = let z : ◌≡◌ {A = ℕ} 0 1 = cc in absurd (omega arith)
 passed-next false true e f l n g x h = let z : ◌≡◌ {A = ℕ} 0 1 = cc in absurd (omega arith)
 passed-next false false true f l n g x h = let z : ◌≡◌ {A = ℕ} 0 1 = cc in absurd (omega arith)
-passed-next false false false Nothing l n g x h = let z : ◌≡◌ {A = ℕ} 0 1 = cc in absurd (omega arith)
-passed-next false false false (At y) true n g x h = let z : ◌≡◌ {A = ℕ} 0 1 = cc in absurd (omega arith)
-passed-next false false false (At y) false true g x h = let z : ◌≡◌ {A = ℕ} 0 1 = cc in absurd (omega arith)
-passed-next false false false (At y) false false true x h = let z : ◌≡◌ {A = ℕ} 0 1 = cc in absurd (omega arith)
-passed-next false false false (At y) false false false x h = record { some_left = refl; some_bytes = refl; located = cc; in_order = refl }
+passed-next false false false None l n g x h = let z : ◌≡◌ {A = ℕ} 0 1 = cc in absurd (omega arith)
+passed-next false false false (Some y) true n g x h = let z : ◌≡◌ {A = ℕ} 0 1 = cc in absurd (omega arith)
+passed-next false false false (Some y) false true g x h = let z : ◌≡◌ {A = ℕ} 0 1 = cc in absurd (omega arith)
+passed-next false false false (Some y) false false true x h = let z : ◌≡◌ {A = ℕ} 0 1 = cc in absurd (omega arith)
+passed-next false false false (Some y) false false false x h = record { some_left = refl; some_bytes = refl; located = cc; in_order = refl }
 
-passed-last : (a s e : Bool) (f : Found) (l n g : Bool) (x : ℕ) → tested_by a s e f l n g ≡ Last x → Passed a e f l x
+passed-last : (a s e : Bool) (f : Option ℕ) (l n g : Bool) (x : ℕ) → tested_by a s e f l n g ≡ Last x → Passed a e f l x
 unfolding tested_by
 passed-last true s e f l n g x h = let z : ◌≡◌ {A = ℕ} 0 1 = cc in absurd (omega arith)
 passed-last false true e f l n g x h = let z : ◌≡◌ {A = ℕ} 0 1 = cc in absurd (omega arith)
 passed-last false false true f l n g x h = let z : ◌≡◌ {A = ℕ} 0 1 = cc in absurd (omega arith)
-passed-last false false false Nothing l n g x h = let z : ◌≡◌ {A = ℕ} 0 1 = cc in absurd (omega arith)
-passed-last false false false (At y) true n g x h = let z : ◌≡◌ {A = ℕ} 0 1 = cc in absurd (omega arith)
-passed-last false false false (At y) false true g x h = record { some_left = refl; some_bytes = refl; located = cc; in_order = refl }
-passed-last false false false (At y) false false true x h = let z : ◌≡◌ {A = ℕ} 0 1 = cc in absurd (omega arith)
-passed-last false false false (At y) false false false x h = let z : ◌≡◌ {A = ℕ} 0 1 = cc in absurd (omega arith)
+passed-last false false false None l n g x h = let z : ◌≡◌ {A = ℕ} 0 1 = cc in absurd (omega arith)
+passed-last false false false (Some y) true n g x h = let z : ◌≡◌ {A = ℕ} 0 1 = cc in absurd (omega arith)
+passed-last false false false (Some y) false true g x h = record { some_left = refl; some_bytes = refl; located = cc; in_order = refl }
+passed-last false false false (Some y) false false true x h = let z : ◌≡◌ {A = ℕ} 0 1 = cc in absurd (omega arith)
+passed-last false false false (Some y) false false false x h = let z : ◌≡◌ {A = ℕ} 0 1 = cc in absurd (omega arith)
 
 -- the chain with a descriptor more: the buffers, the numbers and the words
 record Join (m q head : ℕ) (chain : List ℕ) (rs ws : List Span) (d : Desc) (x : ℕ) : Type 0 where

@@ -7,7 +7,7 @@ ghost use Rattle.model.specs.Memory.{regions, sound};
 ghost use Rattle.model.specs.Ring.{queue_size_ok, aligned, entangled, placed, areas, pending, plus_one, polled, headed, size_max};
 ghost use Rattle.model.specs.Step.{used_at};
 
-use model::{Areas, Found, Phase, Queue, Walk};
+use model::{Phase, Queue, Refusal, Walk};
 
 // A power of two from 1 to 1,024 (DEV-13).
 pub fn size_ok(q: usize) -> bool
@@ -72,45 +72,52 @@ fn entangled(q: usize, desc: usize, avail: usize, used: usize) -> bool
 }
 
 // Three areas found or not, and whether the used one is entangled with another.
-fn placed(q: usize, desc: Found, avail: Found, used: Found, tangled: bool) -> Areas
+fn placed(
+    q: usize,
+    desc: Option<usize>,
+    avail: Option<usize>,
+    used: Option<usize>,
+    tangled: bool,
+) -> Result<Queue, Refusal>
     ensures { result ≡ placed q desc avail used tangled }
 {
-    let Found::At(x) = desc else {
-        return Areas::Refused(27);
-    };
-    let Found::At(y) = avail else {
-        return Areas::Refused(27);
-    };
-    let Found::At(z) = used else {
-        return Areas::Refused(27);
-    };
+    let desc = desc.ok_or(Refusal::NotInMemory)?;
+    let avail = avail.ok_or(Refusal::NotInMemory)?;
+    let used = used.ok_or(Refusal::NotInMemory)?;
     if tangled {
-        return Areas::Refused(28);
+        return Err(Refusal::Entangled);
     }
-    Areas::Placed(Queue {
+    Ok(Queue {
         size: q,
-        desc: x,
-        avail: y,
-        used: z,
+        desc,
+        avail,
+        used,
     })
 }
 
 // What enabling a queue of size q at these guest addresses finds.
-pub fn areas(map: &[usize], m: usize, q: usize, desc: usize, avail: usize, used: usize) -> Areas
+pub fn areas(
+    map: &[usize],
+    m: usize,
+    q: usize,
+    desc: usize,
+    avail: usize,
+    used: usize,
+) -> Result<Queue, Refusal>
     requires { sound m (regions map.now) ≡ true }
     ensures { result ≡ areas (regions map.now) q desc avail used }
 {
-    if size_ok(q) {
-        if aligned(desc, avail, used) {
-            let d = regions::locate(map, m, desc, 16 * q);
-            let a = regions::locate(map, m, avail, 6 + 2 * q);
-            let u = regions::locate(map, m, used, 6 + 8 * q);
-            let tangled = entangled(q, desc, avail, used);
-            return placed(q, d, a, u, tangled);
-        }
-        return Areas::Refused(26);
+    if !size_ok(q) {
+        return Err(Refusal::QueueSize);
     }
-    Areas::Refused(25)
+    if !aligned(desc, avail, used) {
+        return Err(Refusal::Misaligned);
+    }
+    let d = regions::locate(map, m, desc, 16 * q);
+    let a = regions::locate(map, m, avail, 6 + 2 * q);
+    let u = regions::locate(map, m, used, 6 + 8 * q);
+    let tangled = entangled(q, desc, avail, used);
+    placed(q, d, a, u, tangled)
 }
 
 pub fn pending(idx: usize, taken: usize) -> usize

@@ -15,7 +15,7 @@ use Rattle.model.specs.Memory.{Region, locate}
 use Rattle.model.specs.Ring.{pending, plus_one}
 use Rattle.model.specs.Chain.{desc_at, tested, tested_by}
 use Rattle.model.specs.Step.{Cfg, Span, buffer, spans, apply}
-use Rattle.model.specs.declared.Found.TheVariants.{At}
+use Rattle.std.specs.Prelude.{Some}
 use Rattle.model.specs.declared.Queue.{Queue}
 use Rattle.model.specs.declared.Tested.TheVariants.{Next, Last}
 use Rattle.model.specs.declared.Walk.{Walk}
@@ -42,7 +42,7 @@ spans-more (suc n) k chain =
     let z : k + suc n ≡ suc k + n = omega arith in rw z (ap (λ (l : List Span). buffer chain k ∷ l) (spans-more n (suc k) chain))
 
 -- a descriptor that the driver wrote passes the tests
-tested-as : (rs : List Region) (q : ℕ) (k : Walk) (addr len nx x : ℕ) (rd last : Bool) → k.count < q → 1 ≤ len → locate rs addr len ≡ At x
+tested-as : (rs : List Region) (q : ℕ) (k : Walk) (addr len nx x : ℕ) (rd last : Bool) → k.count < q → 1 ≤ len → locate rs addr len ≡ Some x
     → (rd ≡ true → k.reads ≡ k.count) → (last ≡ false → nx < q)
     → tested rs q k (record { addr = addr; len = len; flags = flags_of rd last; next = next_of last nx }) ≡ pick last (Last x) (Next x)
 unfolding tested tested_by flags_of next_of

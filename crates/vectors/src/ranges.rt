@@ -1,5 +1,4 @@
 // Where a range of guest bytes lies in the slice.
-use model::Found;
 use std::io;
 
 fn ask(rt: &impl Print, name: &str, map: &[usize], m: usize, a: usize, n: usize) -> io::Result<()> {
@@ -9,8 +8,8 @@ fn ask(rt: &impl Print, name: &str, map: &[usize], m: usize, a: usize, n: usize)
         return println!(rt; "unsound");
     }
     match regions::locate(map, m, a, n) {
-        Found::At(x) => println!(rt; "at {x}"),
-        Found::Nothing => println!(rt; "nowhere"),
+        Some(x) => println!(rt; "at {x}"),
+        None => println!(rt; "nowhere"),
     }
 }
 

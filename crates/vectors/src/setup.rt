@@ -16,7 +16,10 @@ impl fmt::Display for Map<'_> {
 }
 
 fn ask(rt: &impl Print, name: &str, m: usize, map: &[usize]) -> io::Result<()> {
-    let answer = regions::memory_code(m, map);
+    let answer = match regions::check_map(m, map) {
+        Ok(()) => 0,
+        Err(e) => e.number(),
+    };
     println!(rt; "{name}: slice of {m}, regions{}: {answer}", Map(map))
 }
 

@@ -324,16 +324,16 @@ impl State<'_> {
         regions::all_sound(self.words[at::MEM_LEN], &self.words[at::MAP..end])
     }
 
-    #[tactic(auto, using(model::proofs::Tests::tests), unfolding(crate::specs::Layout::disk_ok))]
+    #[tactic(auto, using(model::proofs::SetUp::refusals), unfolding(crate::specs::Layout::disk_ok))]
     fn disk_ok(self) -> bool
         ensures { result ≡ disk_ok self.entry.words.now }
     {
-        if disk::disk_code(
+        let done = disk::check_disk(
             self.words[at::START],
             self.words[at::SECTORS],
             self.words[at::BACKING_LEN],
-        ) != 0
-        {
+        );
+        if done.is_err() {
             return false;
         }
         if 1 < self.words[at::RO] {

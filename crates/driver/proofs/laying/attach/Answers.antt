@@ -1,19 +1,17 @@
-use mathlib.Core.Path.{sym, ◌∙◌}
+use mathlib.Core.Path.{sym}
 use Rattle.driver.specs.Lay.{attached}
-use borrow.Author.Tests.{eq-eqb, ne_eqb}
+use borrow.Author.Tests.{ne_eqb}
 use Rattle.model.proofs.Memory.{mapped}
+use Rattle.model.proofs.SetUp.{number-some}
 use Rattle.driver.proofs.laying.attach.Goals as goal
 
--- src/laying.rt:48:9
-pub returns-then-code-ne0 : goal.returns-then-code-ne0
+pub returns-in-Err : goal.returns-in-Err
 unfolding attached
-returns-then-code-ne0 c = rw (← c.memory_code-code.ensures, ne_eqb _ 0 c.if-code-ne0.true)
+returns-in-Err c = rw (← c.in-Err.ensures, ne_eqb _ 0 (number-some c.in-Err.e), c.number.ensures)
 
--- src/laying.rt:50:9
 pub areas-found-requires : goal.areas-found-requires
-areas-found-requires c = (mapped _ _ (sym c.memory_code-code.ensures ∙ c.if-code-ne0.false)).each-sound
+areas-found-requires c = (mapped _ _ (sym c.in-Ok.ensures)).each-sound
 
--- src/laying.rt:35:1
-pub returns : goal.returns
+pub returns-in-Ok : goal.returns-in-Ok
 unfolding attached
-returns c = rw (← c.memory_code-code.ensures, eq-eqb _ 0 c.if-code-ne0.false, ← c.areas-found.ensures) c.attached_with.ensures
+returns-in-Ok c = rw (← c.in-Ok.ensures, ← c.areas-found.ensures) c.attached_with.ensures

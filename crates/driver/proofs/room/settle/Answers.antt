@@ -18,7 +18,7 @@ returns-in_default c = let f = sym c.spot_of-found.ensures ∙ c.in_default.is i
 -- src/room.rt:70:5
 pub loop-i-preserved : goal.loop-i-preserved
 unfolding is_at place_of held
-loop-i-preserved c = let f = sym c.spot_of-found.ensures ∙ c.in-At.is in let t = c.loop-i-test.true in (omega (arith, c.hold.auto.chain, c.loop-i.invariant.0), c.loop-i.invariant.1 ∙ rw (in-turn _ _ _ _ t, f), c.loop-i.invariant.2 ∙ rw (settled-turn _ _ _ _ _ t, f, c.hold.ensures))
+loop-i-preserved c = let f = sym c.spot_of-found.ensures ∙ c.in-Some.is in let t = c.loop-i-test.true in (omega (arith, c.hold.auto.chain, c.loop-i.invariant.0), c.loop-i.invariant.1 ∙ rw (in-turn _ _ _ _ t, f), c.loop-i.invariant.2 ∙ rw (settled-turn _ _ _ _ _ t, f, c.hold.ensures))
 
 -- src/room.rt:62:1
 pub returns-clause-value : goal.returns-clause-value

@@ -2,7 +2,7 @@ use borrow.Author.Tests.{le-leb, lt-leb}
 use Rattle.model.specs.Request.{disk_code}
 use native.Mathlib.Omega.{arith}
 use Prim.Native.Nat.{◌+◌, ◌*◌, ◌^◌}
-use Rattle.disk.proofs.disk_code.Goals as goal
+use Rattle.disk.proofs.check_disk.Goals as goal
 
 pub returns-then-sectors-lt1 : goal.returns-then-sectors-lt1
 unfolding disk_code

@@ -3,7 +3,7 @@ use mathlib.Core.Path.{◌≡◌}
 use lib.ListN.{length}
 use Rattle.model.specs.Memory.{memory_code}
 use Rattle.model.proofs.Memory.{code_from}
-use Rattle.regions.proofs.memory_code.Given as goal
+use Rattle.regions.proofs.check_map.Given as goal
 
 -- The regions before i are seen and the others to come: `code_from` at i is the answer, and a refusal of the region at i is it.
 abbrev pub invariant-loop-i : goal.invariant-loop-i

@@ -2,7 +2,7 @@ use Prim.Native.Nat.{◌+◌, ◌-◌, ◌^◌}
 use borrow.Author.Tests.{ne_eqb, eq-eqb, lt-ltb, le-ltb}
 use native.Mathlib.Omega.{arith}
 use Rattle.model.specs.Memory.{region_code}
-use Rattle.regions.proofs.region_code.Goals as goal
+use Rattle.regions.proofs.check_region.Goals as goal
 
 pub returns-then-l-eq0 : goal.returns-then-l-eq0
 unfolding region_code

@@ -6,9 +6,11 @@ use lib.ListN.{length}
 use borrow.Author.Rules.{rules}
 use native.Mathlib.Omega.{arith}
 use Rattle.model.specs.Memory.{regions, memory_code}
+use Rattle.std.proofs.lemmas.Result.{err_from_is_err_and}
+use Rattle.model.proofs.SetUp.{number-some}
 use Rattle.model.proofs.Memory.{code-turn, code-none}
 use borrow.Author.Tests.{ne_eqb, eq-eqb, le-leb, lt-leb}
-use Rattle.regions.proofs.memory_code.Goals as goal
+use Rattle.regions.proofs.check_map.Goals as goal
 
 pub returns-then-map-ne0 : goal.returns-then-map-ne0
 unfolding memory_code
@@ -26,17 +28,20 @@ pub loop-i-init : goal.loop-i-init
 unfolding memory_code regions
 loop-i-init c = let l = length c.args.map.now in (search rules, refl, rw (eq-eqb (l % 3) 0 c.if-map-ne0.false, le-leb 1 (l / 3) (omega arith), le-leb (l / 3) regions_max (omega arith)))
 
-pub returns-then-code-ne0 : goal.returns-then-code-ne0
-returns-then-code-ne0 c = sym (c.loop-i.invariant.2 ∙ rw (code-turn _ _ _ c.loop-i.invariant.1 c.loop-i-test.true, ← c.region_code-code.ensures, ne_eqb c.region_code-code.result 0 c.if-code-ne0.true))
+pub returns-in_err-check_region : goal.returns-in_err-check_region
+returns-in_err-check_region c =
+    let p = err_from_is_err_and c.from_residual.result c.from_residual.ensures.1 in
+    let h = c.in_err-check_region in
+    rw (p.1, p.2) (h.ensures ∙ sym (c.loop-i.invariant.2 ∙ rw (code-turn _ _ _ c.loop-i.invariant.1 c.loop-i-test.true, ← h.ensures, ne_eqb _ 0 (number-some h.field-0.0))))
 
 pub slice_bounds-clashes-end : goal.slice_bounds-clashes-end
 slice_bounds-clashes-end c = sym (length-take-le _ _ (omega arith))
 
 pub returns-then-clashes : goal.returns-then-clashes
-returns-then-clashes c = sym (c.loop-i.invariant.2 ∙ rw (code-turn _ _ _ c.loop-i.invariant.1 c.loop-i-test.true, ← c.region_code-code.ensures, eq-eqb c.region_code-code.result 0 c.if-code-ne0.false, ← c.clashes.ensures, c.if-clashes.true))
+returns-then-clashes c = sym (c.loop-i.invariant.2 ∙ rw (code-turn _ _ _ c.loop-i.invariant.1 c.loop-i-test.true, ← c.in_ok-check_region.ensures, ← c.clashes.ensures, c.if-clashes.true))
 
 pub loop-i-preserved : goal.loop-i-preserved
-loop-i-preserved c = (search rules, omega arith, c.loop-i.invariant.2 ∙ rw (code-turn _ _ _ c.loop-i.invariant.1 c.loop-i-test.true, ← c.region_code-code.ensures, eq-eqb c.region_code-code.result 0 c.if-code-ne0.false, ← c.clashes.ensures, c.if-clashes.false))
+loop-i-preserved c = (search rules, omega arith, c.loop-i.invariant.2 ∙ rw (code-turn _ _ _ c.loop-i.invariant.1 c.loop-i-test.true, ← c.in_ok-check_region.ensures, ← c.clashes.ensures, c.if-clashes.false))
 
 pub returns : goal.returns
 returns c = sym (c.loop-i.invariant.2 ∙ code-none _ _ _ c.loop-i-test.false)
