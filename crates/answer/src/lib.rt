@@ -62,9 +62,9 @@ fn spread_identity(
     ensures { mem.new ≡ apply (scatter (spans (end - first) first chain.now) (id_bytes id0 id1 id2)) mem.old }
 {
     let mut id = [0u8; 20];
-    wire::put64(&mut id, 0, id0);
-    wire::put64(&mut id, 8, id1);
-    wire::put32(&mut id, 16, id2);
+    wire::put::<8>(&mut id, 0, id0);
+    wire::put::<8>(&mut id, 8, id1);
+    wire::put::<4>(&mut id, 16, id2);
     spread(&id, 0, 20, chain, first, end, mem);
 }
 

@@ -16,10 +16,10 @@ pub fn fetch(mem: &[u8], at: usize) -> Desc
     ensures { DescOk at mem.now result }
 {
     Desc {
-        addr: wire::get64(mem, at),
-        len: wire::get32(mem, at + 8),
-        flags: wire::get16(mem, at + 12),
-        next: wire::get16(mem, at + 14),
+        addr: wire::get::<8>(mem, at),
+        len: wire::get::<4>(mem, at + 8),
+        flags: wire::get::<2>(mem, at + 12),
+        next: wire::get::<2>(mem, at + 14),
     }
 }
 

@@ -71,8 +71,8 @@ pub fn header(
     let l = chain[2 * i + 1] - p.skip;
     let n = answer::smaller(16 - got, l);
     moves::copy(mem, at, stage, got, n);
-    let kind = wire::get32(stage, 0);
-    let sector = wire::get64(stage, 8);
+    let kind = wire::get::<4>(stage, 0);
+    let sector = wire::get::<8>(stage, 8);
     gathered(d, k, p, got, l, n, kind, sector)
 }
 

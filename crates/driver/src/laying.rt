@@ -96,6 +96,6 @@ pub fn publish(d: Driver, mem: &mut [u8]) -> Result<(), NotLaid>
     if !room::queue_in(q, mem.len()) {
         return Err(NotLaid::Memory);
     }
-    wire::put16(mem, q.avail + 2, d.next);
+    wire::put::<2>(mem, q.avail + 2, d.next);
     Ok(())
 }

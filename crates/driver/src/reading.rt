@@ -16,7 +16,7 @@ pub fn used_idx(d: Driver, mem: &[u8]) -> usize
     if !room::queue_in(q, mem.len()) {
         return d.seen;
     }
-    wire::get16(mem, q.used + 2)
+    wire::get::<2>(mem, q.used + 2)
 }
 
 fn outstanding(q: usize, own: &[usize], id: usize) -> bool
@@ -85,7 +85,7 @@ fn used_word(d: Driver, mem: &[u8], half: usize) -> usize
     if !room::queue_in(q, mem.len()) {
         return 0;
     }
-    wire::get32(mem, q.used + (4 + 8 * (d.seen % q.size)) + half)
+    wire::get::<4>(mem, q.used + (4 + 8 * (d.seen % q.size)) + half)
 }
 
 // The descriptors that belong to v are free again.

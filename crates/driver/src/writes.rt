@@ -12,19 +12,19 @@ fn put_header(message: &mut [u8], kind: usize, sector: usize)
     requires { 16 ≤ length message.old }
     ensures { message.new ≡ put message.old 0 (header kind sector) }
 {
-    wire::put32(message, 0, kind);
-    wire::put32(message, 4, 0);
-    wire::put64(message, 8, sector);
+    wire::put::<4>(message, 0, kind);
+    wire::put::<4>(message, 4, 0);
+    wire::put::<8>(message, 8, sector);
 }
 
 fn put_descriptor(mem: &mut [u8], at: usize, addr: usize, len: usize, flags: usize, next: usize)
     requires { at + 16 ≤ length mem.old }
     ensures { mem.new ≡ put mem.old at (descriptor addr len flags next) }
 {
-    wire::put64(mem, at, addr);
-    wire::put32(mem, at + 8, len);
-    wire::put16(mem, at + 12, flags);
-    wire::put16(mem, at + 14, next);
+    wire::put::<8>(mem, at, addr);
+    wire::put::<4>(mem, at + 8, len);
+    wire::put::<2>(mem, at + 12, flags);
+    wire::put::<2>(mem, at + 14, next);
 }
 
 fn flags_of(i: usize, reads: usize, e: usize) -> usize
@@ -101,7 +101,7 @@ pub fn write(
     let e = bufs.len() / 2;
     answer::spread(message, 0, message.len(), spots, 0, reads, mem);
     chain_up(mem, q, bufs, nums, reads, e);
-    wire::put16(mem, q.avail + (4 + 2 * (next % q.size)), nums[0]);
+    wire::put::<2>(mem, q.avail + (4 + 2 * (next % q.size)), nums[0]);
 }
 
 // To the driver's own words and the message: whose the descriptors are, and the header.

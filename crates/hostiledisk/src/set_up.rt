@@ -39,9 +39,9 @@ pub fn note_disk(
     state[at::SECTORS] = sectors;
     state[at::RO] = usize::from(ro != 0);
     state[at::BACKING_LEN] = backing;
-    state[at::ID0] = wire::get64(id, 0);
-    state[at::ID1] = wire::get64(id, 8);
-    state[at::ID2] = wire::get32(id, 16);
+    state[at::ID0] = wire::get::<8>(id, 0);
+    state[at::ID1] = wire::get::<8>(id, 8);
+    state[at::ID2] = wire::get::<4>(id, 16);
 }
 
 // Where the areas of a queue would lie in the registered memory.

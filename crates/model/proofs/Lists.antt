@@ -249,3 +249,16 @@ drop-part k n l m = split (leb l n) refl
     split : (b : Bool) → leb l n ≡ b → drop l (part k n m) ≡ part (k + min l n) (n - min l n) m
     split true t = let e : min l n ≡ l = omega (arith, leb-true l n t) in rw e (drop-part-le k n l m (leb-true l n t))
     split false t = let e : min l n ≡ n = omega (arith, leb-false l n t) in rw e (drop-part-gt k n l m (omega (arith, leb-false l n t)))
+
+splice-put : (m : List ℕ) (k : ℕ) (bs : List ℕ) → k + length bs ≤ length m → take k m ++ (bs ++ drop (length bs) (drop k m)) ≡ put m k bs
+unfolding put
+splice-put [] zero [] h = refl
+splice-put [] zero (b ∷ bs) h = absurd (omega arith)
+splice-put [] (suc k) bs h = absurd (omega arith)
+splice-put (x ∷ m) (suc k) bs h = ap (λ (l : List ℕ). x ∷ l) (splice-put m k bs (omega arith))
+splice-put (x ∷ m) zero [] h = refl
+splice-put (x ∷ m) zero (b ∷ bs) h = ap (λ (l : List ℕ). b ∷ l) (splice-put m zero bs (omega arith))
+
+-- a part of a slice, lent to the library and given back with bs in it
+pub put_back : (m : List ℕ) (k n : ℕ) (bs : List ℕ) → length bs ≡ n → k + n ≤ length m → take k m ++ (bs ++ drop (k + n - k) (drop k m)) ≡ put m k bs
+put_back m k n bs e h = let s : k + n - k ≡ length bs = omega arith in rw s (splice-put m k bs (omega arith))

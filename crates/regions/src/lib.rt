@@ -148,9 +148,5 @@ pub fn keep(held: &mut [usize], at: usize, words: &[usize])
     requires { at + length words.now ≤ length held.old }
     ensures { held.new ≡ put held.old at words.now }
 {
-    let mut j = 0;
-    while j < words.len() {
-        held[at + j] = words[j];
-        j += 1;
-    }
+    held[at..at + words.len()].copy_from_slice(words);
 }

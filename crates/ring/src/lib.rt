@@ -175,7 +175,7 @@ pub fn avail_idx(mem: &[u8], avail: usize) -> usize
     requires { avail + 4 ≤ length mem.now }
     ensures { (result ≡ word 2 (avail + 2) mem.now) × (result < 65536) }
 {
-    wire::get16(mem, avail + 2)
+    wire::get::<2>(mem, avail + 2)
 }
 
 // S2 fetches entry (taken modulo q).
@@ -184,7 +184,7 @@ pub fn avail_entry(mem: &[u8], avail: usize, q: usize, taken: usize) -> usize
     requires q_in_bounds { avail + (6 + 2 * q) ≤ length mem.now }
     ensures { (result ≡ word 2 (avail + (4 + 2 * (taken % q))) mem.now) × (result < 65536) }
 {
-    wire::get16(mem, avail + (4 + 2 * (taken % q)))
+    wire::get::<2>(mem, avail + (4 + 2 * (taken % q)))
 }
 
 // S6 writes the used entry (answered modulo q): id, then len.
@@ -196,8 +196,8 @@ pub fn used_entry(mem: &mut [u8], queue: Queue, answered: usize, head: usize, le
     let used = queue.used;
     let q = queue.size;
     let at = used + (4 + 8 * (answered % q));
-    wire::put32(mem, at, head);
-    wire::put32(mem, at + 4, len);
+    wire::put::<4>(mem, at, head);
+    wire::put::<4>(mem, at + 4, len);
 }
 
 // S7 publishes idx of the used ring, by one store: the entry that it covers was written by an earlier call,
@@ -206,5 +206,5 @@ pub fn used_idx(mem: &mut [u8], used: usize, idx: usize)
     requires { used + 4 ≤ length mem.old }
     ensures { mem.new ≡ put mem.old (used + 2) (bytes 2 idx) }
 {
-    wire::put16(mem, used + 2, idx);
+    wire::put::<2>(mem, used + 2, idx);
 }

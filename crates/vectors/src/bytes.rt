@@ -4,29 +4,29 @@ use std::io;
 
 pub fn numbers16(rt: &impl Print) -> io::Result<()> {
     let mut m = [0xee; 10];
-    wire::put16(&mut m, 1, 0x0102);
+    wire::put::<2>(&mut m, 1, 0x0102);
     println!(rt; "put16 0x0102 at 1: {}", Hex(&m))?;
-    println!(rt; "get16 at 1: {}", wire::get16(&m, 1))?;
-    wire::put16(&mut m, 8, 65536 + 7);
+    println!(rt; "get16 at 1: {}", wire::get::<2>(&m, 1))?;
+    wire::put::<2>(&mut m, 8, 65536 + 7);
     println!(rt; "put16 65536 + 7 at 8, the last place: {}", Hex(&m))
 }
 
 pub fn numbers32(rt: &impl Print) -> io::Result<()> {
     let mut m = [0xee; 10];
-    wire::put32(&mut m, 1, 0x0102_0304);
+    wire::put::<4>(&mut m, 1, 0x0102_0304);
     println!(rt; "put32 0x01020304 at 1: {}", Hex(&m))?;
-    println!(rt; "get32 at 1: {}", wire::get32(&m, 1))?;
-    println!(rt; "get32 at 2: {}", wire::get32(&m, 2))
+    println!(rt; "get32 at 1: {}", wire::get::<4>(&m, 1))?;
+    println!(rt; "get32 at 2: {}", wire::get::<4>(&m, 2))
 }
 
 pub fn numbers64(rt: &impl Print) -> io::Result<()> {
     let mut m = [0xee; 10];
-    wire::put64(&mut m, 1, 0x0102_0304_0506_0708);
+    wire::put::<8>(&mut m, 1, 0x0102_0304_0506_0708);
     println!(rt; "put64 0x0102030405060708 at 1: {}", Hex(&m))?;
-    println!(rt; "get64 at 1: {}", wire::get64(&m, 1))?;
-    wire::put64(&mut m, 1, 0xffff_ffff_ffff_ffff);
+    println!(rt; "get64 at 1: {}", wire::get::<8>(&m, 1))?;
+    wire::put::<8>(&mut m, 1, 0xffff_ffff_ffff_ffff);
     println!(rt; "put64 2^64 - 1 at 1: {}", Hex(&m))?;
-    println!(rt; "get64 at 1: {}", wire::get64(&m, 1))
+    println!(rt; "get64 at 1: {}", wire::get::<8>(&m, 1))
 }
 
 pub fn copies(rt: &impl Print) -> io::Result<()> {

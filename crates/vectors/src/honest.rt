@@ -61,7 +61,7 @@ fn serve(
     status: Range<usize>,
 ) -> io::Result<()> {
     host.serve(rt, &mut host::device(read_only, 0))?;
-    let len = wire::get32(&host.mem.0, 0x3008);
+    let len = wire::get::<4>(&host.mem.0, 0x3008);
     print!(rt; ", status {}, len {len}", host.mem.hex(status))
 }
 

@@ -4,4 +4,4 @@ use Rattle.answer.proofs.spread_identity.Goals as goal
 
 pub returns : goal.returns
 unfolding id_bytes part put bytes
-returns c = rw (c.spread.ensures, c.put32.ensures, c.put64-2.ensures, c.put64.ensures)
+returns c = rw (c.spread.ensures, c.put-3.ensures, c.put-2.ensures, c.put.ensures)

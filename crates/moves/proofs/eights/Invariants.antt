@@ -1,12 +1,8 @@
-use Prim.Native.Nat.{◌≤◌, ◌*◌, ◌-◌}
+use Prim.Native.Nat.{◌*◌}
 use mathlib.Core.Path.{◌≡◌}
-use lib.ListN.{length}
 use Rattle.model.specs.Bytes.{put, part}
 use Rattle.moves.proofs.eights.Given as goal
 
 -- After k turns the first k eights of the source's part stand in the destination's.
 abbrev pub invariant-loop-k : goal.invariant-loop-k
-invariant-loop-k l = (l.k ≤ l.m) × (length l.dst ≡ length l.initial.dst) × (l.dst ≡ put l.initial.dst l.to (part l.from (8 * l.k) l.src))
-
-abbrev pub decreases-loop-k : goal.decreases-loop-k
-decreases-loop-k l = l.m - l.k
+invariant-loop-k l = l.dst ≡ put l.initial.dst l.to (part l.from (8 * l.k) l.src)

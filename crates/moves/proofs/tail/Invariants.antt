@@ -1,12 +1,7 @@
-use Prim.Native.Nat.{◌≤◌, ◌-◌}
 use mathlib.Core.Path.{◌≡◌}
-use lib.ListN.{length}
 use Rattle.model.specs.Bytes.{put, part}
 use Rattle.moves.proofs.tail.Given as goal
 
 -- After i turns the first i bytes of the source's part stand in the destination's.
 abbrev pub invariant-loop-i : goal.invariant-loop-i
-invariant-loop-i l = (l.i ≤ l.n) × (length l.dst ≡ length l.initial.dst) × (l.dst ≡ put l.initial.dst l.to (part l.from l.i l.src))
-
-abbrev pub decreases-loop-i : goal.decreases-loop-i
-decreases-loop-i l = l.n - l.i
+invariant-loop-i l = l.dst ≡ put l.initial.dst l.to (part l.from l.i l.src)

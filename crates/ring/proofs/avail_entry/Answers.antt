@@ -11,5 +11,5 @@ overflow_add-taken c = omega (arith, mod-lt c.args.taken c.requires.le_q)
 pub overflow_add-avail : goal.overflow_add-avail
 overflow_add-avail c = omega (arith, mod-lt c.args.taken c.requires.le_q)
 
-pub get16-requires : goal.get16-requires
-get16-requires c = omega (arith, mod-lt c.args.taken c.requires.le_q)
+pub get-requires-clause-in_bounds : goal.get-requires-clause-in_bounds
+get-requires-clause-in_bounds c = omega (arith, mod-lt c.args.taken c.requires.le_q)

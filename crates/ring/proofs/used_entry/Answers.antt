@@ -13,15 +13,15 @@ overflow_add-at c = omega (arith, mod-lt c.args.answered c.requires.le_size)
 pub overflow_add-at-2 : goal.overflow_add-at-2
 overflow_add-at-2 c = omega (arith, mod-lt c.args.answered c.requires.le_size)
 
-pub put32-requires : goal.put32-requires
-put32-requires c = omega (arith, mod-lt c.args.answered c.requires.le_size)
+pub put-requires-clause-in_bounds : goal.put-requires-clause-in_bounds
+put-requires-clause-in_bounds c = omega (arith, mod-lt c.args.answered c.requires.le_size)
 
 pub overflow_add-at-3 : goal.overflow_add-at-3
 overflow_add-at-3 c = omega (arith, mod-lt c.args.answered c.requires.le_size)
 
-pub put32-requires-2 : goal.put32-requires-2
-put32-requires-2 c = rw c.put32.auto.m (omega (arith, mod-lt c.args.answered c.requires.le_size, c.requires.size_in_bounds))
+pub put-requires-2-clause-in_bounds : goal.put-requires-2-clause-in_bounds
+put-requires-2-clause-in_bounds c = rw c.put.auto.m (omega (arith, mod-lt c.args.answered c.requires.le_size, c.requires.size_in_bounds))
 
 pub returns : goal.returns
 unfolding bytes
-returns c = rw (c.put32-2.ensures, c.put32.ensures) (put-put _ _ (bytes 4 _) _)
+returns c = rw (c.put-2.ensures, c.put.ensures) (put-put _ _ (bytes 4 _) _)

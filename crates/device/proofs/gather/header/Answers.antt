@@ -4,4 +4,4 @@ pub returns-clause-stage_after : goal.returns-clause-stage_after
 returns-clause-stage_after c = rw (c.copy.ensures, c.smaller-n.ensures)
 
 pub returns-clause-value : goal.returns-clause-value
-returns-clause-value c = rw (← c.smaller-n.ensures, ← c.get32-kind.ensures.value, ← c.get64-sector.ensures) c.gathered.ensures
+returns-clause-value c = rw (← c.smaller-n.ensures, ← c.get-kind.ensures.value, ← c.get-sector.ensures.value) c.gathered.ensures

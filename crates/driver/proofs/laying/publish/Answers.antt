@@ -11,9 +11,9 @@ returns-then-not-queue_in c = rw (← c.queue_in.ensures, c.if-not-queue_in.true
 pub overflow_add-q : goal.overflow_add-q
 overflow_add-q c = omega (arith, queue-ok _ _ (sym c.queue_in.ensures ∙ c.if-not-queue_in.false))
 
-pub put16-requires : goal.put16-requires
-put16-requires c = omega (arith, queue-ok _ _ (sym c.queue_in.ensures ∙ c.if-not-queue_in.false))
+pub put-requires-clause-in_bounds : goal.put-requires-clause-in_bounds
+put-requires-clause-in_bounds c = omega (arith, queue-ok _ _ (sym c.queue_in.ensures ∙ c.if-not-queue_in.false))
 
 pub returns : goal.returns
 unfolding publish_answer published
-returns c = rw (← c.queue_in.ensures, c.if-not-queue_in.false) (record { value = refl; mem_after = c.put16.ensures })
+returns c = rw (← c.queue_in.ensures, c.if-not-queue_in.false) (record { value = refl; mem_after = c.put.ensures })

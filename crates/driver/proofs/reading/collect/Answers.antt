@@ -12,7 +12,7 @@ loop-i-init c = let z : length c.args.out.now - 0 ≡ length c.args.out.now = om
 
 -- src/reading.rt:175:9
 pub copy-requires : goal.copy-requires
-copy-requires c = let l = inside-here (length c.args.mem.now) c.loop-i.i c.args.end c.args.spots.now c.loop-i-test.true c.loop-i.invariant.2 in record { n_in_bounds = omega (arith, l, c.smaller-n.ensures); n_in_bounds_2 = omega (arith, c.smaller-n.ensures, c.loop-i.invariant.1, c.loop-i.invariant.0) }
+copy-requires c = let l = inside-here (length c.args.mem.now) c.loop-i.i c.args.end c.args.spots.now c.loop-i-test.true c.loop-i.invariant.2 in record { src_in_bounds = omega (arith, l, c.smaller-n.ensures); dst_in_bounds = omega (arith, c.smaller-n.ensures, c.loop-i.invariant.1, c.loop-i.invariant.0) }
 
 -- src/reading.rt:173:5
 pub loop-i-preserved : goal.loop-i-preserved

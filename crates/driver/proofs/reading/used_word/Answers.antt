@@ -20,12 +20,12 @@ overflow_add-q c = let k = queue-ok _ _ (sym c.queue_in.ensures ∙ c.if-not-que
 pub overflow_add-q-2 : goal.overflow_add-q-2
 overflow_add-q-2 c = let k = queue-ok _ _ (sym c.queue_in.ensures ∙ c.if-not-queue_in.false) in omega (arith, mod-lt c.args.d.seen k.some_size, k.used-in)
 
-pub get32-requires : goal.get32-requires
-get32-requires c = let k = queue-ok _ _ (sym c.queue_in.ensures ∙ c.if-not-queue_in.false) in omega (arith, mod-lt c.args.d.seen k.some_size, k.used-in)
+pub get-requires-clause-in_bounds : goal.get-requires-clause-in_bounds
+get-requires-clause-in_bounds c = let k = queue-ok _ _ (sym c.queue_in.ensures ∙ c.if-not-queue_in.false) in omega (arith, mod-lt c.args.d.seen k.some_size, k.used-in)
 
 pub returns : goal.returns
 unfolding used_word
-returns c = rw (← c.queue_in.ensures, c.if-not-queue_in.false) c.get32.ensures.value
+returns c = rw (← c.queue_in.ensures, c.if-not-queue_in.false) c.get.ensures.value
 
 pub returns-then-not-queue_in : goal.returns-then-not-queue_in
 unfolding used_word

@@ -3,4 +3,4 @@ use Rattle.driver.proofs.writes.put_header.Goals as goal
 
 -- src/writes.rt:14:1
 pub returns : goal.returns
-returns c = rw (c.put64.ensures, c.put32-2.ensures, c.put32.ensures) (header-put _ _ _)
+returns c = rw (c.put-3.ensures, c.put-2.ensures, c.put.ensures) (header-put _ _ _)

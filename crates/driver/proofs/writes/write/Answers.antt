@@ -26,9 +26,9 @@ pub overflow_add-q : goal.overflow_add-q
 overflow_add-q c = let f = c.requires in omega (arith, mod-lt c.args.next f.some_size, f.avail-in)
 
 -- src/writes.rt:115:5
-pub put16-requires : goal.put16-requires
-put16-requires c = let f = c.requires in omega (arith, mod-lt c.args.next f.some_size, f.avail-in, c.chain_up.auto.mem, c.spread.auto.mem)
+pub put-requires-clause-in_bounds : goal.put-requires-clause-in_bounds
+put-requires-clause-in_bounds c = let f = c.requires in omega (arith, mod-lt c.args.next f.some_size, f.avail-in, c.chain_up.auto.mem, c.spread.auto.mem)
 
 -- src/writes.rt:99:1
 pub returns : goal.returns
-returns c = rw (c.put16.ensures, c.chain_up.ensures, c.spread.ensures) (write-stores _ _ _ _ _ _ _ _ _)
+returns c = rw (c.put.ensures, c.chain_up.ensures, c.spread.ensures) (write-stores _ _ _ _ _ _ _ _ _)

@@ -13,4 +13,4 @@ flagged false = refl
 
 pub returns : goal.returns
 unfolding disk_set
-returns c = rw (c.from.ensures, flagged (eqb c.args.ro 0), c.get64.ensures, c.get64-2.ensures, c.get32.ensures.value) (simp (put-cons, put-nil))
+returns c = rw (c.from.ensures, flagged (eqb c.args.ro 0), c.get.ensures.value, c.get-2.ensures.value, c.get-3.ensures.value) (simp (put-cons, put-nil))
