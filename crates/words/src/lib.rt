@@ -171,8 +171,8 @@ impl From<Row> for Phase {
     }
 }
 
-// What writes the words takes the slice and its length as a clause: a struct that held the `&mut` would have each of these
-// functions promise that it still holds the same slice, which is longer than the clause that it would save.
+// What writes the words takes the slice and its length as a clause. A struct that holds the `&mut` gets no generated proof where a
+// method takes it by value and passes it on; behind a `&mut` each of these would have to promise that it still holds the same slice.
 fn save_row(s: &mut [usize], x: Row)
     requires { state_words ≤ length s.old }
     ensures { s.new ≡ put s.old tag_word (row_words x) }
