@@ -24,16 +24,15 @@ pub fn fetch(mem: &[u8], at: usize) -> Desc
 }
 
 // A readable descriptor after a writable one.
+#[tactic(auto, using(model::proofs::Tests::tests))]
 fn late(flags: usize, reads: usize, count: usize) -> bool
     ensures { result ≡ both (ltb flags 2) (ltb reads count) }
 {
-    if flags < 2 {
-        return reads < count;
-    }
-    false
+    flags < 2 && reads < count
 }
 
 // The tests of 01 §3, in their order. `found` is where the descriptor's buffer lies.
+#[tactic(auto, using(model::proofs::Tests::tests), unfolding(model::specs::Chain::tested_by))]
 pub fn judge(
     q: usize,
     count: usize,
@@ -70,6 +69,7 @@ pub fn judge(
 }
 
 // The chain with one descriptor more.
+#[tactic(auto, using(model::proofs::Tests::tests), unfolding(model::specs::Chain::tally))]
 pub fn tally(k: Walk, flags: usize, len: usize) -> Walk
     requires count_bound { k.count < 2 ^ 32 }
     requires reads_bound { k.reads < 2 ^ 32 }
@@ -106,6 +106,7 @@ pub fn hold(chain: &mut [usize], n: usize, place: usize, len: usize)
 }
 
 // The chain ends with descriptor `cur` of the table.
+#[tactic(auto, using(model::proofs::Tests::tests), unfolding(model::specs::Chain::complete))]
 pub fn complete(k: Walk, cur: usize) -> Phase
     ensures { result ≡ complete k cur }
 {

@@ -9,6 +9,7 @@ ghost use Rattle.model.specs.SetUp.{answer_of};
 use model::Refusal;
 
 // 29, 30, or none.
+#[tactic(auto, using(model::proofs::Tests::tests), unfolding(model::specs::Request::disk_code))]
 pub fn check_disk(start: usize, sectors: usize, backing: usize) -> Result<(), Refusal>
     ensures { answer_of result ≡ disk_code start sectors backing }
 {

@@ -12,6 +12,7 @@ use model::Refusal;
 pub const REGIONS_MAX: usize = 32;
 
 // 21, 22, 23, or none. No sum is made: each test subtracts what an earlier one allowed.
+#[tactic(auto, using(model::proofs::Tests::tests), unfolding(model::specs::Memory::region_code))]
 pub fn check_region(m: usize, g: usize, l: usize, o: usize) -> Result<(), Refusal>
     ensures { answer_of result ≡ region_code m (region g l o) }
 {
@@ -30,6 +31,7 @@ pub fn check_region(m: usize, g: usize, l: usize, o: usize) -> Result<(), Refusa
     Ok(())
 }
 
+#[tactic(auto, using(model::proofs::Tests::tests), unfolding(model::specs::Memory::overlap))]
 pub fn overlaps(g: usize, l: usize, h: usize, k: usize) -> bool
     ensures { result ≡ overlap g l h k }
 {
@@ -49,17 +51,16 @@ pub fn overlaps(g: usize, l: usize, h: usize, k: usize) -> bool
 fn clashes(seen: &[usize], g: usize, l: usize) -> bool
     ensures { result ≡ clash (regions seen.now) g l }
 {
-    let mut i = 0;
-    while i + 2 < seen.len() {
-        if overlaps(g, l, seen[i], seen[i + 1]) {
+    for i in 0..seen.len() / 3 {
+        if overlaps(g, l, seen[3 * i], seen[3 * i + 1]) {
             return true;
         }
-        i += 3;
     }
     false
 }
 
 // What set-up refuses of these regions over a slice of m bytes: 20 to 24.
+#[tactic(auto, using(model::proofs::Tests::tests), unfolding(model::specs::Memory::memory_code))]
 pub fn check_map(m: usize, map: &[usize]) -> Result<(), Refusal>
     ensures { answer_of result ≡ memory_code m map.now }
 {
@@ -72,13 +73,13 @@ pub fn check_map(m: usize, map: &[usize]) -> Result<(), Refusal>
     if REGIONS_MAX < map.len() / 3 {
         return Err(Refusal::RegionCount);
     }
-    let mut i = 0;
-    while i + 2 < map.len() {
-        check_region(m, map[i], map[i + 1], map[i + 2])?;
-        if clashes(&map[..i], map[i], map[i + 1]) {
+    for i in 0..map.len() / 3 {
+        let g = map[3 * i];
+        let l = map[3 * i + 1];
+        check_region(m, g, l, map[3 * i + 2])?;
+        if clashes(&map[..3 * i], g, l) {
             return Err(Refusal::RegionsOverlap);
         }
-        i += 3;
     }
     Ok(())
 }
@@ -95,17 +96,15 @@ pub fn all_sound(m: usize, map: &[usize]) -> bool
     ensures { result ≡ sound m (regions map.now) }
 {
     let n = map.len() / 3;
-    let mut i = 0;
-    while i < n {
-        if sound_one(m, map[3 * i], map[3 * i + 1], map[3 * i + 2]) {
-            i += 1;
-        } else {
+    for i in 0..n {
+        if !sound_one(m, map[3 * i], map[3 * i + 1], map[3 * i + 2]) {
             return false;
         }
     }
     true
 }
 
+#[tactic(auto, using(model::proofs::Tests::tests), unfolding(model::specs::Memory::contains))]
 fn holds(g: usize, l: usize, a: usize, n: usize) -> bool
     requires { 1 ≤ n }
     ensures { result ≡ contains g l a n }
@@ -131,14 +130,11 @@ pub fn locate(map: &[usize], m: usize, a: usize, n: usize) -> Option<usize>
     if n < 1 {
         return None;
     }
-    let count = map.len() / 3;
-    let mut i = 0;
-    while i < count {
+    for i in 0..map.len() / 3 {
         let g = map[3 * i];
         if holds(g, map[3 * i + 1], a, n) {
             return Some(map[3 * i + 2] + (a - g));
         }
-        i += 1;
     }
     None
 }

@@ -10,68 +10,31 @@ ghost use Rattle.model.specs.Step.{used_at};
 use model::{Phase, Queue, Refusal, Walk};
 
 // A power of two from 1 to 1,024 (DEV-13).
+#[tactic(auto, using(model::proofs::Tests::tests), unfolding(model::specs::Ring::among, model::specs::Ring::queue_size_ok))]
 pub fn size_ok(q: usize) -> bool
     ensures { result ≡ queue_size_ok q }
 {
-    if q == 1 {
-        return true;
-    }
-    if q == 2 {
-        return true;
-    }
-    if q == 4 {
-        return true;
-    }
-    if q == 8 {
-        return true;
-    }
-    if q == 16 {
-        return true;
-    }
-    if q == 32 {
-        return true;
-    }
-    if q == 64 {
-        return true;
-    }
-    if q == 128 {
-        return true;
-    }
-    if q == 256 {
-        return true;
-    }
-    if q == 512 {
-        return true;
-    }
-    if q == 1024 {
-        return true;
-    }
-    false
+    matches!(q, 1 | 2 | 4 | 8 | 16 | 32 | 64 | 128 | 256 | 512 | 1024)
 }
 
+#[tactic(auto, using(model::proofs::Tests::tests), unfolding(model::specs::Ring::aligned))]
 fn aligned(desc: usize, avail: usize, used: usize) -> bool
     ensures { result ≡ aligned desc avail used }
 {
-    if desc % 16 != 0 {
-        return false;
-    }
-    if avail % 2 != 0 {
-        return false;
-    }
-    used % 4 == 0
+    desc % 16 == 0 && avail % 2 == 0 && used % 4 == 0
 }
 
+#[tactic(auto, using(model::proofs::Tests::tests), unfolding(model::specs::Ring::entangled))]
 fn entangled(q: usize, desc: usize, avail: usize, used: usize) -> bool
     requires { q ≤ size_max }
     ensures { result ≡ entangled q desc avail used }
 {
-    if regions::overlaps(used, 6 + 8 * q, avail, 6 + 2 * q) {
-        return true;
-    }
-    regions::overlaps(used, 6 + 8 * q, desc, 16 * q)
+    regions::overlaps(used, 6 + 8 * q, avail, 6 + 2 * q)
+        || regions::overlaps(used, 6 + 8 * q, desc, 16 * q)
 }
 
 // Three areas found or not, and whether the used one is entangled with another.
+#[tactic(auto, unfolding(model::specs::Ring::placed))]
 fn placed(
     q: usize,
     desc: Option<usize>,
@@ -96,6 +59,7 @@ fn placed(
 }
 
 // What enabling a queue of size q at these guest addresses finds.
+#[tactic(auto, unfolding(model::specs::Ring::areas))]
 pub fn areas(
     map: &[usize],
     m: usize,
@@ -120,6 +84,7 @@ pub fn areas(
     placed(q, d, a, u, tangled)
 }
 
+#[tactic(auto, using(model::proofs::Tests::tests), unfolding(model::specs::Ring::pending))]
 pub fn pending(idx: usize, taken: usize) -> usize
     requires idx_bound { idx < 65536 }
     requires taken_bound { taken < 65536 }
@@ -128,6 +93,7 @@ pub fn pending(idx: usize, taken: usize) -> usize
     (idx + 65536 - taken) % 65536
 }
 
+#[tactic(auto, using(model::proofs::Tests::tests), unfolding(model::specs::Ring::plus_one))]
 pub fn one_more(n: usize) -> usize
     requires { n < 65536 }
     ensures { result ≡ plus_one n }
@@ -136,6 +102,7 @@ pub fn one_more(n: usize) -> usize
 }
 
 // S1, decided: idx has been fetched.
+#[tactic(auto, using(model::proofs::Tests::tests), unfolding(model::specs::Ring::polled))]
 pub fn polled(q: usize, taken: usize, idx: usize) -> Phase
     requires idx_bound { idx < 65536 }
     requires taken_bound { taken < 65536 }
@@ -152,6 +119,7 @@ pub fn polled(q: usize, taken: usize, idx: usize) -> Phase
 }
 
 // S2, decided: the entry has been fetched.
+#[tactic(auto, using(model::proofs::Tests::tests), unfolding(model::specs::Ring::headed))]
 pub fn headed(q: usize, head: usize) -> Phase
     ensures { result ≡ headed q head }
 {

@@ -1,16 +1,12 @@
-use mathlib.Core.Path.{refl, sym, ◌∙◌}
-use borrow.Author.Rules.{rules}
+use mathlib.Core.Path.{sym, ◌∙◌}
 use Rattle.model.proofs.Memory.{sound-from, sound_none}
 use Rattle.regions.proofs.all_sound.Goals as goal
 
-pub loop-i-init : goal.loop-i-init
-loop-i-init c = (search rules, refl)
+pub returns-then-not-sound_one : goal.returns-then-not-sound_one
+returns-then-not-sound_one c = sym (c.loop-i.invariant ∙ sound-from _ _ _ c.loop-i-test.true ∙ rw (← c.if-not-sound_one.ensures))
 
 pub loop-i-preserved : goal.loop-i-preserved
-loop-i-preserved c = (search rules, c.loop-i.invariant.1 ∙ sound-from _ _ _ c.loop-i-test.true ∙ rw (← c.sound_one.ensures, c.if-sound_one.true))
-
-pub returns-else-sound_one : goal.returns-else-sound_one
-returns-else-sound_one c = sym (c.loop-i.invariant.1 ∙ sound-from _ _ _ c.loop-i-test.true ∙ rw (← c.sound_one.ensures, c.if-sound_one.false))
+loop-i-preserved c = c.loop-i.invariant ∙ sound-from _ _ _ c.loop-i-test.true ∙ rw (← c.if-not-sound_one.ensures)
 
 pub returns : goal.returns
-returns c = sym (c.loop-i.invariant.1 ∙ sound_none _ _ _ c.loop-i-test.false)
+returns c = sym (c.loop-i.invariant ∙ sound_none _ _ _ c.loop-i-test.false)

@@ -1,4 +1,4 @@
-use Prim.Native.Nat.{◌≤◌, ◌-◌, ◌*◌}
+use Prim.Native.Nat.{◌*◌}
 use mathlib.Core.Path.{◌≡◌}
 use mathlib.Core.Bool.{true}
 use lib.ListN.{drop}
@@ -6,7 +6,5 @@ use Rattle.model.specs.Memory.{regions, sound, locate}
 use Rattle.regions.proofs.locate.Given as goal
 
 abbrev pub invariant-loop-i : goal.invariant-loop-i
-invariant-loop-i l = (l.i ≤ l.count) × (locate (regions l.map) l.a l.n ≡ locate (regions (drop (3 * l.i) l.map)) l.a l.n) × (sound l.m (regions (drop (3 * l.i) l.map)) ≡ true)
-
-abbrev pub decreases-loop-i : goal.decreases-loop-i
-decreases-loop-i l = l.count - l.i
+invariant-loop-i l =
+    (locate (regions l.map) l.a l.n ≡ locate (regions (drop (3 * l.i) l.map)) l.a l.n) × (sound l.m (regions (drop (3 * l.i) l.map)) ≡ true)
