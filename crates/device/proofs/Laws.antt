@@ -13,7 +13,8 @@ use Rattle.model.specs.Pick.{pick}
 use Rattle.model.specs.Bytes.{put, part, word, bytes}
 use Rattle.model.specs.Ring.{polled, headed, plus_one}
 use Rattle.model.specs.Chain.{desc_at, tested, described, descs_after, keeps}
-use Rattle.model.specs.Step.{Cfg, Span, nothing, stores, apply, shifted, writables, left, lacks, ends, gathered, paid, want, next, chained, measured, staged, effect, answer_stores, mem_stores, disk_stores, disk_of, counted, code_after, code_of, fetched, step_with, step}
+use Rattle.model.specs.Step.{Cfg, nothing, stores, apply, shifted, writables, left, lacks, ends, gathered, paid, want, next, chained, measured, staged, effect, answer_stores, mem_stores, disk_stores, disk_of, counted, code_after, code_of, fetched, step_with, step}
+use Rattle.model.specs.declared.Span.{Span}
 use Rattle.model.specs.Sane.{ready, inside, all_inside, place_is_ok}
 use Rattle.model.proofs.Tests.{picked, both-split}
 use Rattle.model.proofs.Words.{word-part}

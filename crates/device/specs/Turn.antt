@@ -10,7 +10,7 @@ use Rattle.device.specs.declared.Config.{Config}
 
 -- the model's words for what the code holds
 abbrev pub cfg_of : Config → List ℕ → Cfg
-cfg_of c words = record { map = regions words; disk = c.disk; id = id_bytes c.id0 c.id1 c.id2; queue = c.queue }
+cfg_of c words = record { map = regions words; disk = c.disk; id = id_bytes c.id; queue = c.queue }
 
 abbrev pub state_of : ℕ → ℕ → ℕ → Phase → State
 state_of taken answered descs p = record { taken = taken; answered = answered; descs = descs; phase = p }

@@ -8,6 +8,8 @@ ghost use Rattle.device.specs.Fit.{HeaderFit, PayloadFit};
 
 use model::{Disk, Job, Phase, Place, Walk};
 
+// n bytes on, of l that are left of the buffer.
+#[tactic(auto, using(model::proofs::Tests::tests), unfolding(model::specs::Step::onward))]
 fn onward(p: Place, l: usize, n: usize) -> Place
     requires n_le_l { n ≤ l }
     requires l_bound { p.skip + l < 2 ^ 64 }
@@ -15,14 +17,15 @@ fn onward(p: Place, l: usize, n: usize) -> Place
     ensures { result ≡ onward p l n }
 {
     if n == l {
-        return Place {
+        Place {
             buf: p.buf + 1,
             skip: 0,
-        };
-    }
-    Place {
-        buf: p.buf,
-        skip: p.skip + n,
+        }
+    } else {
+        Place {
+            buf: p.buf,
+            skip: p.skip + n,
+        }
     }
 }
 
@@ -66,14 +69,12 @@ pub fn header(
     ensures stage_after { stage.new ≡ put stage.old got (part (left chain.now p).at (lacks got (left chain.now p).len) mem.now) }
     ensures value { result ≡ gathered d k p got (left chain.now p).len (lacks got (left chain.now p).len) (word 4 0 stage.new) (word 8 8 stage.new) }
 {
-    let i = p.buf;
-    let at = chain[2 * i] + p.skip;
-    let l = chain[2 * i + 1] - p.skip;
-    let n = answer::smaller(16 - got, l);
-    moves::copy(mem, at, stage, got, n);
+    let b = model::left(chain, p);
+    let n = (16 - got).min(b.len);
+    moves::copy(mem, b.at, stage, got, n);
     let kind = wire::get::<4>(stage, 0);
     let sector = wire::get::<8>(stage, 8);
-    gathered(d, k, p, got, l, n, kind, sector)
+    gathered(d, k, p, got, b.len, n, kind, sector)
 }
 
 // S5 fetches all that is left of one buffer: into staging memory, or, if these are the payload's last bytes,
@@ -94,21 +95,12 @@ pub fn payload(
     ensures stage_after { stage.new ≡ pick (ends k got (left chain.now p).len) stage.old (put stage.old got (part (left chain.now p).at (left chain.now p).len mem.now)) }
     ensures backing_after { backing.new ≡ pick (ends k got (left chain.now p).len) (put backing.old (d.start + 512 * sector) (part 0 got stage.old ++ part (left chain.now p).at (left chain.now p).len mem.now)) backing.old }
 {
-    let i = p.buf;
-    let at = chain[2 * i] + p.skip;
-    let l = chain[2 * i + 1] - p.skip;
-    if got + l == k.r - 16 {
-        disk::store(backing, d.start + 512 * sector, stage, got, mem, at, l);
+    let b = model::left(chain, p);
+    if got + b.len == k.r - 16 {
+        let to = d.start + 512 * sector;
+        disk::store(backing, to, stage, got, mem, b.at, b.len);
         return Phase::Answer(k, Job::Done, k.r);
     }
-    moves::copy(mem, at, stage, got, l);
-    Phase::Payload(
-        k,
-        Place {
-            buf: i + 1,
-            skip: 0,
-        },
-        sector,
-        got + l,
-    )
+    moves::copy(mem, b.at, stage, got, b.len);
+    Phase::Payload(k, onward(p, b.len, b.len), sector, got + b.len)
 }

@@ -10,18 +10,16 @@ ghost use Rattle.model.specs.Chain.{desc_at, tested, described, descs_after, kee
 ghost use Rattle.model.specs.Step.{code_after};
 ghost use Rattle.device.specs.Outcome.{number};
 
-use model::{Disk, Linked, Phase, Queue, Walk};
+use model::{Disk, Identity, Linked, Phase, Queue, Walk};
 
 pub mod gather;
 
-// What set-up has fixed, but for the memory map: the queue, the disk, the identity as three numbers, and the slice's length.
+// What set-up has fixed, but for the memory map: the queue, the disk, its identity, and the slice's length.
 #[derive(Clone, Copy)]
 pub struct Config {
     pub queue: Queue,
     pub disk: Disk,
-    pub id0: usize,
-    pub id1: usize,
-    pub id2: usize,
+    pub id: Identity,
     pub m: usize,
 }
 

@@ -12,7 +12,8 @@ use borrow.Author.Tests.{leb-true, eqb-true, eqb-false, le-leb}
 use Rattle.model.specs.Pick.{pick}
 use Rattle.model.specs.Bytes.{put}
 use Rattle.model.specs.Memory.{Region, sound, locate}
-use Rattle.model.specs.Step.{Span, spans}
+use Rattle.model.specs.Step.{spans}
+use Rattle.model.specs.declared.Span.{Span}
 use Rattle.model.specs.Sane.{all_inside, inside}
 use Rattle.std.specs.Prelude.{Option, Some, None}
 use Rattle.model.specs.declared.Queue.{Queue}

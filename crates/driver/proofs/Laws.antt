@@ -17,8 +17,9 @@ use Rattle.model.specs.Bytes.{put, part, bytes}
 use Rattle.model.specs.Memory.{Region, overlap, sound}
 use Rattle.model.specs.Ring.{queue_size_ok, size_max}
 use Rattle.model.specs.declared.Queue.{Queue}
-use Rattle.model.specs.Step.{Span, spans, apply, scatter}
-use Rattle.model.proofs.Lists.{put-put, put-nil, part-zero, part-first, part-all}
+use Rattle.model.specs.Step.{spans, apply, scatter}
+use Rattle.model.specs.declared.Span.{Span}
+use Rattle.model.proofs.Lists.{put-put, put-nil, part-zero, part-first}
 use Rattle.model.proofs.Words.{length-bytes}
 use Rattle.model.proofs.Step.{spans-turn, spans-end, apply-append}
 use Rattle.requests.specs.Serve.{total}
@@ -230,14 +231,13 @@ counts-ok q words reads spots nums e =
 
 -- the writes, one after the other
 pub write-stores : (q : Queue) (nx : ℕ) (message : List ℕ) (reads e : ℕ) (bufs spots nums mem : List ℕ)
-    → put (apply (links bufs nums q.desc reads e e 0) (apply (scatter (spans (reads - 0) 0 spots) (part 0 (length message) message)) mem)) (avail_at q nx) (bytes 2 (get_or nums 0 0))
+    → put (apply (links bufs nums q.desc reads e e 0) (apply (scatter (spans (reads - 0) 0 spots) message) mem)) (avail_at q nx) (bytes 2 (get_or nums 0 0))
     ≡ apply (lay_stores q nx message reads e bufs spots nums) mem
 unfolding lay_stores apply
 write-stores q nx message reads e bufs spots nums mem =
     let z : reads - 0 ≡ reads = omega arith in
     rw (
       z,
-      part-all message,
       apply-append (scatter (spans reads 0 spots) message) (links bufs nums q.desc reads e e 0 ++ (record { to = avail_at q nx; bytes = bytes 2 (get_or nums 0 0) } ∷ [])) mem,
       apply-append (links bufs nums q.desc reads e e 0) (record { to = avail_at q nx; bytes = bytes 2 (get_or nums 0 0) } ∷ []) (apply (scatter (spans reads 0 spots) message) mem),
     )

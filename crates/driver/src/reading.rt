@@ -160,7 +160,7 @@ fn collect(mem: &[u8], spots: &[usize], first: usize, end: usize, out: &mut [u8]
 {
     let mut pos = 0;
     for i in first..end {
-        let n = answer::smaller(spots[2 * i + 1], out.len() - pos);
+        let n = spots[2 * i + 1].min(out.len() - pos);
         moves::copy(mem, spots[2 * i], out, pos, n);
         pos += n;
     }

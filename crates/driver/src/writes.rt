@@ -99,7 +99,7 @@ pub fn write(
     ensures { mem.new ≡ apply (lay_stores q next message.now reads (length bufs.now / 2) bufs.now spots.now nums.now) mem.old }
 {
     let e = bufs.len() / 2;
-    answer::spread(message, 0, message.len(), spots, 0, reads, mem);
+    answer::spread(message, spots, 0, reads, mem);
     chain_up(mem, q, bufs, nums, reads, e);
     wire::put::<2>(mem, q.avail + (4 + 2 * (next % q.size)), nums[0]);
 }

@@ -6,7 +6,8 @@ use native.Mathlib.Omega.{arith}
 use native.Mathlib.Nat.{mod-lt}
 use lib.ListN.{get_or}
 use Rattle.model.specs.Memory.{Region, regions}
-use Rattle.model.specs.Step.{Cfg, Span, want, left, lacks, spans, used_at}
+use Rattle.model.specs.Step.{Cfg, want, left, lacks, spans, used_at}
+use Rattle.model.specs.declared.Span.{Span}
 use Rattle.model.proofs.Memory.{InOne, Within, here, later}
 use Rattle.model.proofs.Step.{spans-turn, spans-end}
 use Rattle.words.specs.Layout.{row_at, phase_of, config_at, map_words, level, sectors_word, taken_word, answered_word}

@@ -13,7 +13,8 @@ use Rattle.model.specs.Sane.{ready}
 use Rattle.model.specs.Request.{status, reported}
 use Rattle.model.specs.Ring.{plus_one}
 use borrow.Author.Tests.{le-ltb, eq-eqb}
-use Rattle.model.specs.Step.{Effect, nothing, stores, answers, publishes, Span, Store, apply, scatter, spans, writables, handed, status_at, used_at, answer_stores, mem_stores, effect, disk_of, step, step_with, fetched, want, left, code_of, code_after, ends, next, Cfg}
+use Rattle.model.specs.Step.{Effect, nothing, stores, answers, publishes, Store, apply, scatter, spans, writables, handed, status_at, used_at, answer_stores, mem_stores, effect, disk_of, step, step_with, fetched, want, left, code_of, code_after, ends, next, Cfg}
+use Rattle.model.specs.declared.Span.{Span}
 use Rattle.model.proofs.Lists.{Apart, below, above, part-cong, put-apart}
 use Rattle.model.proofs.Step.{spans-turn}
 use Rattle.model.proofs.Words.{length-bytes}

@@ -2,7 +2,8 @@
 use Rattle.std.specs.Prelude.{ℕ, ◌+◌, ◌*◌, ◌≤◌, ◌<◌, List, [], ◌∷◌, ◌++◌, ◌≡◌, get_or, length, eqb, ltb}
 use Rattle.model.specs.Pick.{pick}
 use Rattle.model.proofs.Lists.{Apart}
-use Rattle.model.specs.Step.{Span, want, used_at, writables, Store, disk_stores, effect}
+use Rattle.model.specs.Step.{want, used_at, writables, Store, disk_stores, effect}
+use Rattle.model.specs.declared.Span.{Span}
 use Rattle.model.specs.Bytes.{part}
 use Rattle.model.specs.Sane.{ready}
 use Rattle.device.specs.Turn.{cfg_of}

@@ -185,9 +185,7 @@ pub fn answer(
     answer::reply(
         view.queue(),
         view.disk(),
-        view.words[at::ID0],
-        view.words[at::ID1],
-        view.words[at::ID2],
+        view.identity(),
         view.words[at::ANSWERED],
         k,
         job,

@@ -11,7 +11,6 @@ use words::{State, at};
 // A queue that steps have broken answers so, and stays as it is.
 #[tactic(auto, using(model::proofs::Tests::tests), unfolding(crate::specs::Calls::broken_code))]
 fn broken(state: State) -> Outcome
-    requires { framed state.words.now ≡ true }
     ensures { number result ≡ broken_code state.entry.words.now }
 {
     if state.words[at::TAG] != 8 {

@@ -8,7 +8,8 @@ use lib.ListN.{length, get_or}
 use Rattle.model.specs.Bytes.{put, part}
 use Rattle.model.proofs.Lists.{take_part, drop-part, length-put, put-nil}
 use lib.Seq.{take-nil, drop-nil}
-use Rattle.model.specs.Step.{Span, buffer, spans, Store, apply, scatter}
+use Rattle.model.specs.Step.{buffer, spans, Store, apply, scatter}
+use Rattle.model.specs.declared.Span.{Span}
 
 -- the buffers from i up to e: the first of them, and the others
 pub spans-turn : (i e : ℕ) (chain : List ℕ) → i < e → spans (e - i) i chain ≡ buffer chain i ∷ spans (e - (i + 1)) (i + 1) chain

@@ -4,7 +4,8 @@ use Rattle.std.specs.Prelude.{ℕ, ◌+◌, ◌-◌, ◌*◌, Bool, true, false,
 use Rattle.model.specs.Pick.{pick, both}
 use Rattle.model.specs.Ring.{elsewhere}
 use Rattle.model.specs.Request.{fits}
-use Rattle.model.specs.Step.{Span, left, writables}
+use Rattle.model.specs.Step.{left, writables}
+use Rattle.model.specs.declared.Span.{Span}
 use Rattle.model.specs.declared.Walk.{Walk}
 use Rattle.model.specs.declared.Place.{Place}
 use Rattle.model.specs.declared.Job.{Job}

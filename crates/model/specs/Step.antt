@@ -10,6 +10,7 @@ use Rattle.model.specs.declared.Queue.{Queue}
 use Rattle.model.specs.declared.Disk.{Disk}
 use Rattle.model.specs.declared.Walk.{Walk}
 use Rattle.model.specs.declared.Place.{Place}
+use Rattle.model.specs.declared.Span.{Span}
 use Rattle.model.specs.declared.Job.{Job}
 use Rattle.model.specs.declared.Job.TheVariants.{Failed, Unsupported, Done, Read, Write, Identity}
 use Rattle.model.specs.declared.Phase.{Phase}
@@ -28,11 +29,6 @@ pub record State : Type 0 where
   pub answered : ℕ
   pub descs : ℕ
   pub phase : Phase
-
--- a range of a slice
-pub record Span : Type 0 where
-  pub at : ℕ
-  pub len : ℕ
 
 -- buffer i of the private chain
 abbrev pub buffer : List ℕ → ℕ → Span

@@ -1,8 +1,9 @@
 // The types that the definitions and the code share. They hold what documents 01 and 03 name, and nothing else.
 #![tactic(auto)]
 
-ghost use Rattle.std.specs.Prelude.{◌≡◌};
+ghost use Rattle.std.specs.Prelude.{◌≡◌, ◌+◌, ◌*◌, ◌^◌, ◌≤◌, ◌<◌, length, get_or};
 ghost use Rattle.model.specs.SetUp.{number};
+ghost use Rattle.model.specs.Step.{buffer, left};
 
 // 01 §2: a queue's size, and the slice offsets of its descriptors, available ring and used ring.
 #[derive(Clone, Copy)]
@@ -77,12 +78,54 @@ pub struct Place {
     pub skip: usize,
 }
 
-// 03 §1: a disk's first byte in the backing slice, its sectors, and 1 if it is read-only.
+// A range of a slice.
+#[derive(Clone, Copy)]
+pub struct Span {
+    pub at: usize,
+    pub len: usize,
+}
+
+// Buffer i of the private chain. The chain is memory that C lends, two words for each buffer: where it lies, and its length.
+#[inline(always)]
+pub fn buffer(chain: &[usize], i: usize) -> Span
+    requires { 2 * i + 1 < length chain.now }
+    ensures { result ≡ buffer chain.now i }
+{
+    Span {
+        at: chain[2 * i],
+        len: chain[2 * i + 1],
+    }
+}
+
+// What is left of the buffer at a place.
+#[inline(always)]
+pub fn left(chain: &[usize], p: Place) -> Span
+    requires buf_in_bounds { 2 * p.buf + 1 < length chain.now }
+    requires skip_in { p.skip ≤ get_or chain.now (2 * p.buf + 1) 0 }
+    requires at_bound { get_or chain.now (2 * p.buf) 0 + p.skip < 2 ^ 64 }
+    ensures { result ≡ left chain.now p }
+{
+    let b = buffer(chain, p.buf);
+    Span {
+        at: b.at + p.skip,
+        len: b.len - p.skip,
+    }
+}
+
+// 03 §1: a disk's first byte in the backing slice, its sectors, and whether it is read-only.
 #[derive(Clone, Copy)]
 pub struct Disk {
     pub start: usize,
     pub sectors: usize,
-    pub ro: usize,
+    pub ro: bool,
+}
+
+// 03 §1: the 20 identity bytes as numbers, lowest byte first: the first eight, the next eight, the last four.
+#[derive(Clone, Copy)]
+pub struct Identity {
+    pub first: usize,
+    pub second: usize,
+    pub last: usize,
 }
 
 // 03 §3: what becomes of a request. Failed is status 1, Unsupported status 2; the others have status 0.

@@ -11,7 +11,8 @@ use borrow.Author.Tests.{leb-true, leb-false, lt-ltb, le-ltb, eq-eqb, ne_eqb}
 use Rattle.model.specs.Pick.{pick}
 use Rattle.model.specs.Bytes.{put, part, word}
 use Rattle.model.specs.Request.{verdict, decided}
-use Rattle.model.specs.Step.{Cfg, Span, Out, left, onward, ends, gathered, spans}
+use Rattle.model.specs.Step.{Cfg, Out, left, onward, ends, gathered, spans}
+use Rattle.model.specs.declared.Span.{Span}
 use Rattle.model.specs.declared.Walk.{Walk}
 use Rattle.model.specs.declared.Place.{Place}
 use Rattle.model.specs.declared.Job.TheVariants.{Done}

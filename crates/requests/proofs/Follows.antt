@@ -10,8 +10,9 @@ use borrow.Author.Tests.{leb-false, ltb-false, eqb-false}
 use Rattle.model.specs.Pick.{both}
 use Rattle.model.specs.Memory.{Region, locate, sound}
 use Rattle.model.specs.Chain.{desc_at, tested_by, tested, tally, held, complete, described, descs_after, keeps}
-use Rattle.model.specs.Step.{Cfg, Span, Out, spans, code_after}
+use Rattle.model.specs.Step.{Cfg, Out, spans, code_after}
 use Rattle.std.specs.Prelude.{Option, Some, None}
+use Rattle.model.specs.declared.Span.{Span}
 use Rattle.model.specs.declared.Desc.{Desc}
 use Rattle.model.specs.declared.Tested.{Tested}
 use Rattle.model.specs.declared.Tested.TheVariants.{Bad, Next, Last}

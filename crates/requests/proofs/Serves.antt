@@ -5,6 +5,7 @@ use native.Mathlib.Nat.{add-zero, zero-add, suc-add}
 use mathlib.Core.Bool.{Bool, true, false}
 use mathlib.Core.Path.{◌≡◌, refl, sym, ap, ◌∙◌, fun_ext}
 use mathlib.Core.List.{List, [], ◌∷◌, ◌++◌}
+use Rattle.std.specs.Prelude.{not}
 use lib.Dec.{leb, ltb, eqb}
 use lib.ListN.{length, get_or, drop, get_or-append}
 use borrow.Author.Tests.{ltb-false, lt-leb, le-leb, le-ltb, lt-ltb, ne_eqb}
@@ -14,7 +15,8 @@ use Rattle.model.specs.Memory.{sound}
 use Rattle.model.specs.Ring.{pending, polled, headed as enters, fresh, elsewhere}
 use Rattle.model.specs.Chain.{complete}
 use Rattle.model.specs.Request.{fits, in_ok, out_ok, exactly, verdict, status, reported, decided}
-use Rattle.model.specs.Step.{Cfg, Span, Out, spans, scatter, handed, used_at, disk_of, answer_stores, code_after}
+use Rattle.model.specs.Step.{Cfg, Out, spans, scatter, handed, used_at, disk_of, answer_stores, code_after}
+use Rattle.model.specs.declared.Span.{Span}
 use Rattle.model.specs.declared.Disk.{Disk}
 use Rattle.model.specs.declared.Queue.{Queue}
 use Rattle.model.specs.declared.Place.{Place}
@@ -61,7 +63,7 @@ write-only false false x false y false u false v s s₂ e = let z : ◌≡◌ {A
 write-short : (d : Disk) (type sector r w s : ℕ) → verdict d type sector r w ≡ Write s → r - 16 ≤ 1048576
 unfolding verdict exactly out_ok
 write-short d type sector r w s e =
-    let k = write-only (ltb r 16) (eqb type 0) (in_ok d sector r w) (eqb type 1) (both (eqb w 1) (both (fits (r - 16) sector d.sectors) (eqb d.ro 0))) (eqb type 4) (both (eqb r 16) (eqb w 1)) (eqb type 8) (both (eqb r 16) (eqb w 21)) sector s e in
+    let k = write-only (ltb r 16) (eqb type 0) (in_ok d sector r w) (eqb type 1) (both (eqb w 1) (both (fits (r - 16) sector d.sectors) (not d.ro))) (eqb type 4) (both (eqb r 16) (eqb w 1)) (eqb type 8) (both (eqb r 16) (eqb w 21)) sector s e in
     let f = (both-split (fits (r - 16) sector d.sectors) _ (both-split (eqb w 1) _ k.0).1).0 in
     (fits-ok (r - 16) sector d.sectors f).short
 

@@ -11,7 +11,8 @@ use lib.ListN.{length, get_or, length-append}
 use borrow.Author.Tests.{leb-true, leb-false, eqb-true}
 use Rattle.model.specs.Pick.{pick}
 use Rattle.model.specs.Bytes.{put, part}
-use Rattle.model.specs.Step.{Span, buffer, left, spans}
+use Rattle.model.specs.Step.{buffer, left, spans}
+use Rattle.model.specs.declared.Span.{Span}
 use Rattle.model.specs.declared.Place.{Place}
 use Rattle.model.proofs.Tests.{told}
 use Rattle.model.proofs.Lists.{put-below, put_in, part-add, length_part}

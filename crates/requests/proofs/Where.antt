@@ -8,7 +8,8 @@ use lib.ListN.{length, length-append}
 use borrow.Author.Tests.{leb-false, eqb-true}
 use Rattle.model.specs.Ring.{pending}
 use Rattle.model.specs.Chain.{tested}
-use Rattle.model.specs.Step.{Cfg, Span}
+use Rattle.model.specs.Step.{Cfg}
+use Rattle.model.specs.declared.Span.{Span}
 use Rattle.model.proofs.Tests.{on}
 use Rattle.model.proofs.Chain.{next-room, last-room}
 use Rattle.model.specs.declared.Desc.{Desc}

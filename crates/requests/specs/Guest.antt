@@ -4,7 +4,8 @@ use Rattle.model.specs.Pick.{pick}
 use Rattle.model.specs.Bytes.{part, word}
 use Rattle.model.specs.Ring.{plus_one}
 use Rattle.model.specs.Chain.{desc_at}
-use Rattle.model.specs.Step.{Cfg, State, Span, Out, apply, step}
+use Rattle.model.specs.Step.{Cfg, State, Out, apply, step}
+use Rattle.model.specs.declared.Span.{Span}
 use Rattle.model.specs.declared.Queue.{Queue}
 use Rattle.model.specs.declared.Phase.{Phase}
 use Rattle.model.specs.declared.Phase.TheVariants.{Poll, Broken}

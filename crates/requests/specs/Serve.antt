@@ -5,7 +5,8 @@ use Rattle.model.specs.Bytes.{put, part, word, bytes}
 use Rattle.model.specs.Ring.{pending, plus_one, elsewhere}
 use Rattle.model.specs.Chain.{desc_at, tested}
 use Rattle.model.specs.Request.{verdict, status, reported}
-use Rattle.model.specs.Step.{Cfg, Span, Store, apply, scatter, handed, used_at, disk_of}
+use Rattle.model.specs.Step.{Cfg, Store, apply, scatter, handed, used_at, disk_of}
+use Rattle.model.specs.declared.Span.{Span}
 use Rattle.model.specs.declared.Queue.{Queue}
 use Rattle.model.specs.declared.Disk.{Disk}
 use Rattle.model.specs.declared.Desc.{Desc}

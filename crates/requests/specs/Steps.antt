@@ -2,7 +2,8 @@
 use Rattle.std.specs.Prelude.{ℕ, ◌+◌, ◌-◌, List, [], ◌∷◌, leb, ltb, eqb, length}
 use Rattle.model.specs.Pick.{pick}
 use Rattle.model.specs.Ring.{pending}
-use Rattle.model.specs.Step.{Cfg, Span}
+use Rattle.model.specs.Step.{Cfg}
+use Rattle.model.specs.declared.Span.{Span}
 use Rattle.model.specs.declared.Job.{Job}
 use Rattle.model.specs.declared.Job.TheVariants.{Failed, Unsupported, Done, Read, Write, Identity}
 use Rattle.requests.specs.Serve.{Seen, total, Followed, broke, whole, follow, job_of}

@@ -1,43 +1,27 @@
 // What a call tests of words that anybody may have spoilt, before it acts on them.
-#![tactic(auto)]
+#![tactic(auto, using(model::proofs::Tests::tests), unfolding(model::specs::Sane::walk_ok, model::specs::Sane::full_ok, model::specs::Sane::job_ok, model::specs::Sane::refused_at, model::specs::Sane::sane, model::specs::Sane::inside, model::specs::Sane::place_is_ok, model::specs::Sane::ready))]
 
-ghost use Rattle.std.specs.Prelude.{◌≡◌, true, ◌+◌, ◌-◌, ◌*◌, ◌≤◌, ◌<◌, length};
-ghost use Rattle.model.specs.Ring.{size_max};
+ghost use Rattle.std.specs.Prelude.{◌≡◌, ◌+◌, ◌-◌, ◌*◌, ◌≤◌, ◌<◌, length};
 ghost use Rattle.model.specs.Sane.{walk_ok, full_ok, job_ok, refused_at, sane, inside, all_inside, place_is_ok, ready};
 ghost use Rattle.model.specs.Step.{spans};
 
 use model::{Job, Phase, Place, Walk};
 
+// What the counts come to is tested without a sum or product that could wrap, so a spoilt size needs no test of its own.
 pub fn walk_ok(q: usize, k: Walk) -> bool
-    requires { q ≤ size_max }
     ensures { result ≡ walk_ok q k }
 {
-    if q <= k.head {
-        return false;
-    }
-    if q < k.count {
-        return false;
-    }
-    if k.count < k.reads {
-        return false;
-    }
-    if 4294967295 * k.reads < k.r {
-        return false;
-    }
-    k.w <= 4294967295 * (k.count - k.reads)
+    k.head < q
+        && k.count <= q
+        && k.reads <= k.count
+        && k.r <= k.reads.saturating_mul(4294967295)
+        && k.w <= (k.count - k.reads).saturating_mul(4294967295)
 }
 
 pub fn full_ok(q: usize, k: Walk) -> bool
-    requires { q ≤ size_max }
     ensures { result ≡ full_ok q k }
 {
-    if walk_ok(q, k) {
-        if k.reads < k.count {
-            return 1 <= k.w;
-        }
-        return false;
-    }
-    false
+    walk_ok(q, k) && k.reads < k.count && 1 <= k.w
 }
 
 fn job_ok(sectors: usize, k: Walk, job: Job) -> bool
@@ -45,9 +29,7 @@ fn job_ok(sectors: usize, k: Walk, job: Job) -> bool
     ensures { result ≡ job_ok sectors k job }
 {
     match job {
-        Job::Failed => true,
-        Job::Unsupported => true,
-        Job::Done => true,
+        Job::Failed | Job::Unsupported | Job::Done => true,
         Job::Read(s) => request::fits(k.w - 1, s, sectors),
         Job::Write(_) => false,
         Job::Identity => k.w == 21,
@@ -55,110 +37,62 @@ fn job_ok(sectors: usize, k: Walk, job: Job) -> bool
 }
 
 pub fn chain_sane(q: usize, k: Walk, cur: usize) -> bool
-    requires { q ≤ size_max }
     ensures { result ≡ sane q 0 (Phase.Chain k cur) }
 {
-    if walk_ok(q, k) {
-        return cur < q;
-    }
-    false
+    walk_ok(q, k) && cur < q
 }
 
 pub fn header_sane(q: usize, k: Walk, p: Place, got: usize) -> bool
-    requires { q ≤ size_max }
     ensures { result ≡ sane q 0 (Phase.Header k p got) }
 {
-    if full_ok(q, k) {
-        if k.reads <= p.buf {
-            return false;
-        }
-        if 16 <= got {
-            return false;
-        }
-        return 16 <= k.r;
-    }
-    false
+    full_ok(q, k) && p.buf < k.reads && got < 16 && 16 <= k.r
 }
 
 pub fn payload_sane(q: usize, sectors: usize, k: Walk, p: Place, s: usize, got: usize) -> bool
-    requires { q ≤ size_max }
     ensures { result ≡ sane q sectors (Phase.Payload k p s got) }
 {
-    if full_ok(q, k) {
-        if k.reads <= p.buf {
-            return false;
-        }
-        if k.r <= 16 {
-            return false;
-        }
-        if k.r - 16 <= got {
-            return false;
-        }
-        return request::fits(k.r - 16, s, sectors);
-    }
-    false
+    full_ok(q, k)
+        && p.buf < k.reads
+        && 16 < k.r
+        && got < k.r - 16
+        && request::fits(k.r - 16, s, sectors)
 }
 
 pub fn answer_sane(q: usize, sectors: usize, k: Walk, job: Job, got: usize) -> bool
-    requires { q ≤ size_max }
     ensures { result ≡ sane q sectors (Phase.Answer k job got) }
 {
-    if full_ok(q, k) {
-        if k.r < got {
-            return false;
-        }
-        return job_ok(sectors, k, job);
-    }
-    false
+    full_ok(q, k) && got <= k.r && job_ok(sectors, k, job)
 }
 
 pub fn publish_sane(q: usize, k: Walk, got: usize) -> bool
-    requires { q ≤ size_max }
     ensures { result ≡ sane q 0 (Phase.Publish k got) }
 {
-    if full_ok(q, k) {
-        return got <= k.r;
-    }
-    false
+    full_ok(q, k) && got <= k.r
 }
 
 // The descriptor at which a chain was refused (DEV-12): one of the table, if one was fetched.
 fn refused_at(q: usize, count: usize, at: usize) -> bool
     ensures { result ≡ refused_at q count at }
 {
-    if count == 0 {
-        return at == 65536;
-    }
-    at < q
+    if count == 0 { at == 65536 } else { at < q }
 }
 
 pub fn broken_sane(q: usize, reason: usize, head: usize, count: usize, at: usize) -> bool
-    requires { q ≤ size_max }
     ensures { result ≡ sane q 0 (Phase.Broken reason head count at) }
 {
-    if reason < 1 {
-        return false;
-    }
-    if 8 < reason {
-        return false;
-    }
-    if q <= head {
-        return false;
-    }
-    if q + 1 < count {
-        return false;
-    }
-    refused_at(q, count, at)
+    1 <= reason
+        && reason <= 8
+        && head < q
+        && count <= q.saturating_add(1)
+        && refused_at(q, count, at)
 }
 
 // Is this a phase that steps make, on a queue of size q and a disk of so many sectors?
 pub fn sane(q: usize, sectors: usize, p: Phase) -> bool
-    requires { q ≤ size_max }
     ensures { result ≡ sane q sectors p }
 {
     match p {
-        Phase::Poll => true,
-        Phase::Entry => true,
+        Phase::Poll | Phase::Entry => true,
         Phase::Chain(k, cur) => chain_sane(q, k, cur),
         Phase::Header(k, at, got) => header_sane(q, k, at, got),
         Phase::Payload(k, at, s, got) => payload_sane(q, sectors, k, at, s, got),
@@ -171,13 +105,7 @@ pub fn sane(q: usize, sectors: usize, p: Phase) -> bool
 pub fn inside(m: usize, at: usize, len: usize) -> bool
     ensures { result ≡ inside m at len }
 {
-    if m < len {
-        return false;
-    }
-    if m - len < at {
-        return false;
-    }
-    true
+    len <= m && at <= m - len
 }
 
 // Do the buffers of the chain from `first` up to `end` lie in a slice of m bytes?
@@ -185,11 +113,9 @@ pub fn all_inside(m: usize, chain: &[usize], first: usize, end: usize) -> bool
     requires { 2 * end ≤ length chain.now }
     ensures { result ≡ all_inside m (spans (end - first) first chain.now) }
 {
-    let mut i = first;
-    while i < end {
-        if inside(m, chain[2 * i], chain[2 * i + 1]) {
-            i += 1;
-        } else {
+    for i in first..end {
+        let b = model::buffer(chain, i);
+        if !inside(m, b.at, b.len) {
             return false;
         }
     }
@@ -200,12 +126,8 @@ pub fn place_ok(m: usize, chain: &[usize], p: Place) -> bool
     requires { 2 * p.buf + 1 < length chain.now }
     ensures { result ≡ place_is_ok m chain.now p }
 {
-    let i = p.buf;
-    let len = chain[2 * i + 1];
-    if p.skip < len {
-        return inside(m, chain[2 * i], len);
-    }
-    false
+    let b = model::buffer(chain, p.buf);
+    p.skip < b.len && inside(m, b.at, b.len)
 }
 
 pub fn payload_ready(m: usize, chain: &[usize], k: Walk, p: Place, got: usize) -> bool
@@ -214,14 +136,7 @@ pub fn payload_ready(m: usize, chain: &[usize], k: Walk, p: Place, got: usize) -
     requires got_bound { got < k.r - 16 }
     ensures { result ≡ ready m chain.now (Phase.Payload k p 0 got) }
 {
-    if place_ok(m, chain, p) {
-        let i = p.buf;
-        if k.r - 16 - got < chain[2 * i + 1] - p.skip {
-            return false;
-        }
-        return true;
-    }
-    false
+    place_ok(m, chain, p) && model::left(chain, p).len <= k.r - 16 - got
 }
 
 pub fn answer_ready(m: usize, chain: &[usize], k: Walk) -> bool
@@ -229,9 +144,5 @@ pub fn answer_ready(m: usize, chain: &[usize], k: Walk) -> bool
     requires count_in_bounds { 2 * k.count ≤ length chain.now }
     ensures { result ≡ ready m chain.now (Phase.Answer k Job.Failed 0) }
 {
-    if all_inside(m, chain, k.reads, k.count) {
-        let last = k.count - 1;
-        return 1 <= chain[2 * last + 1];
-    }
-    false
+    all_inside(m, chain, k.reads, k.count) && 1 <= model::buffer(chain, k.count - 1).len
 }

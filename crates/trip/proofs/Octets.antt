@@ -5,7 +5,9 @@ use mathlib.Core.List.{List, [], ◌∷◌, ◌++◌}
 use lib.ListN.{get_or, take, drop}
 use Rattle.model.specs.Bytes.{put, part, bytes}
 use Rattle.model.specs.Request.{status, reported}
-use Rattle.model.specs.Step.{Cfg, State, Span, Store, Effect, nothing, stores, answers, publishes, apply, shifted, scatter, writables, handed, answer_stores, mem_stores, disk_stores, disk_of, effect, staged, ends, left, fetched, step, step_with}
+use Rattle.model.specs.Step.{Cfg, State, Store, Effect, nothing, stores, answers, publishes, apply, shifted, scatter, writables, handed, answer_stores, mem_stores, disk_stores, disk_of, effect, staged, ends, left, fetched, step, step_with}
+use Rattle.model.specs.declared.Span.{Span}
+use Rattle.model.specs.declared.Identity.{Identity as IdentityWords}
 use Rattle.model.proofs.Tests.{on}
 use Rattle.model.specs.declared.Queue.{Queue}
 use Rattle.model.specs.declared.Walk.{Walk}
@@ -63,9 +65,11 @@ unfolding Octets bytes
 octets-bytes zero v = tt
 octets-bytes (suc n) v = (omega arith, octets-bytes n (v / 256))
 
-pub octets-id : (a b c : ℕ) → Octets (id_bytes a b c)
+pub octets-id : (id : IdentityWords) → Octets (id_bytes id)
 unfolding id_bytes
-octets-id a b c = octets-append (bytes 8 a) (bytes 8 b ++ bytes 4 c) (octets-bytes 8 a) (octets-append (bytes 8 b) (bytes 4 c) (octets-bytes 8 b) (octets-bytes 4 c))
+octets-id id =
+    octets-append (bytes 8 id.first) (bytes 8 id.second ++ bytes 4 id.last) (octets-bytes 8 id.first)
+    (octets-append (bytes 8 id.second) (bytes 4 id.last) (octets-bytes 8 id.second) (octets-bytes 4 id.last))
 
 -- .. of every write
 unfoldable pub Written : List Store → Type 0

@@ -141,7 +141,7 @@ stands c n w s backing chain stage m =
       map-sound = sound_more (config_at w.state).m n _ f.mem_long f.sound-map;
       chain-long = f.chain-long;
       stage-long = f.stage-long;
-      id-bytes = octets-id _ _ _;
+      id-bytes = octets-id _;
     })
 
 -- A request of which guest memory is held still: with enough calls, what `serve` says of that memory.

@@ -1,7 +1,7 @@
 -- The whole way, over the definitions of the calls: a request is laid, served and read; and a write is read back.
 use Prim.Native.Nat.{ℕ, zero, suc, ◌+◌, ◌-◌, ◌*◌, ◌/◌, ◌^◌, ◌≤◌, ◌<◌}
 use native.Mathlib.Omega.{arith}
-use mathlib.Core.Bool.{true}
+use mathlib.Core.Bool.{true, false}
 use mathlib.Core.List.{List}
 use mathlib.Core.Path.{◌≡◌, refl, sym, ap, ◌∙◌}
 use lib.Dec.{eqb, leb}
@@ -13,7 +13,8 @@ use Rattle.model.specs.Bytes.{put, part}
 use Rattle.model.specs.Memory.{Region, regions}
 use Rattle.model.specs.Ring.{plus_one}
 use Rattle.model.specs.Request.{verdict, status, reported}
-use Rattle.model.specs.Step.{Cfg, Span, spans, handed, disk_of}
+use Rattle.model.specs.Step.{Cfg, spans, handed, disk_of}
+use Rattle.model.specs.declared.Span.{Span}
 use Rattle.model.specs.declared.Queue.{Queue}
 use Rattle.model.specs.declared.Job.{Job}
 use Rattle.model.specs.declared.Job.TheVariants.{Read, Write}
@@ -236,7 +237,7 @@ read-form d type sector r w job (flushes t l o) e = absurd (omega arith)
 read-form d type sector r w job (tells t l o) e = absurd (omega arith)
 
 abbrev largest : Disk
-largest = record { start = 0; sectors = 2 ^ 32; ro = 0 }
+largest = record { start = 0; sectors = 2 ^ 32; ro = false }
 
 form-accepted : (kind r w : ℕ) → formed kind r w ≡ true → Accepted largest kind 0 r w (verdict largest kind 0 r w)
 unfolding formed

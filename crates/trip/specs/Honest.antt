@@ -1,5 +1,5 @@
 -- What a round trip stands on.
-use Rattle.std.specs.Prelude.{ℕ, ◌+◌, ◌-◌, ◌/◌, ◌≤◌, List, ◌≡◌, length, get_or, Ok}
+use Rattle.std.specs.Prelude.{ℕ, ◌+◌, ◌-◌, ◌/◌, ◌≤◌, List, ◌≡◌, false, length, get_or, Ok}
 use Rattle.model.specs.Memory.{regions}
 use Rattle.model.specs.Step.{Cfg, spans}
 use Rattle.model.specs.declared.Phase.TheVariants.{Poll}
@@ -28,7 +28,7 @@ pub record Honest (state mem backing chain stage : List ℕ) (n : ℕ) (d : Driv
   -- the driver's own words are in order (all 0, or as laying and reading answers leave them)
   pub own-named : Named d.queue.size own
   -- the disk can be written, and the data are whole sectors of it
-  pub writable : (device_of state).disk.ro ≡ 0
+  pub writable : (device_of state).disk.ro ≡ false
   pub sectors-fit : Fit (length message - 16) sector (device_of state).disk.sectors
   -- the driver has room for each of the two requests
   pub write-accepted : (plan d.queue (regions map) (length mem) own 1 (length message) bufs reads spots nums).answer ≡ Ok tt

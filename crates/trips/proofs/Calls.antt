@@ -10,7 +10,8 @@ use lib.Seq.{take-take}
 use borrow.Author.Tests.{lt-ltb, le-ltb, le-leb, ne_eqb}
 use Rattle.model.specs.Memory.{Region}
 use Rattle.model.specs.Ring.{pending, plus_one}
-use Rattle.model.specs.Step.{Span, spans}
+use Rattle.model.specs.Step.{spans}
+use Rattle.model.specs.declared.Span.{Span}
 use Rattle.model.specs.Sane.{inside, all_inside}
 use Rattle.model.specs.declared.Queue.{Queue}
 use Rattle.model.specs.declared.Job.{Job}

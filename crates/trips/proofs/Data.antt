@@ -6,7 +6,8 @@ use mathlib.Core.List.{List}
 use lib.ListN.{length}
 use Rattle.model.specs.Bytes.{put, part}
 use Rattle.model.specs.Request.{verdict, status}
-use Rattle.model.specs.Step.{Cfg, Span, spans, handed, disk_of}
+use Rattle.model.specs.Step.{Cfg, spans, handed, disk_of}
+use Rattle.model.specs.declared.Span.{Span}
 use Rattle.model.specs.declared.Disk.{Disk}
 use Rattle.model.specs.declared.Walk.{Walk}
 use Rattle.model.specs.declared.Job.{Job}

@@ -11,7 +11,8 @@ use Rattle.model.specs.Pick.{pick}
 use Rattle.model.specs.Bytes.{word}
 use Rattle.model.specs.Memory.{Region}
 use Rattle.model.specs.Ring.{pending}
-use Rattle.model.specs.Step.{Cfg, Span, spans}
+use Rattle.model.specs.Step.{Cfg, spans}
+use Rattle.model.specs.declared.Span.{Span}
 use Rattle.model.specs.declared.Queue.{Queue}
 use Rattle.model.specs.declared.Job.{Job}
 use Rattle.model.specs.declared.Job.TheVariants.{Failed, Unsupported, Done, Read, Write, Identity}

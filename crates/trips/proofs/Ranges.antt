@@ -11,7 +11,8 @@ use borrow.Author.Tests.{eqb-true}
 use Rattle.model.specs.Pick.{pick}
 use Rattle.model.specs.Bytes.{put, part, word}
 use Rattle.model.specs.Memory.{overlap}
-use Rattle.model.specs.Step.{Span, Store, apply, scatter, spans}
+use Rattle.model.specs.Step.{Store, apply, scatter, spans}
+use Rattle.model.specs.declared.Span.{Span}
 use Rattle.model.proofs.Tests.{told, picked}
 use Rattle.model.proofs.Memory.{overlap-false}
 use Rattle.model.proofs.Step.{length-apply}

@@ -10,7 +10,8 @@ use Rattle.model.specs.Bytes.{put, part, word, bytes}
 use Rattle.model.specs.Memory.{Region}
 use Rattle.model.specs.Ring.{plus_one}
 use Rattle.model.specs.Request.{status, reported}
-use Rattle.model.specs.Step.{Cfg, Span, Store, buffer, apply, scatter, spans, handed, used_at, disk_of}
+use Rattle.model.specs.Step.{Cfg, Store, buffer, apply, scatter, spans, handed, used_at, disk_of}
+use Rattle.model.specs.declared.Span.{Span}
 use Rattle.model.specs.declared.Queue.{Queue}
 use Rattle.model.specs.declared.Job.{Job}
 use Rattle.model.proofs.Tests.{on}

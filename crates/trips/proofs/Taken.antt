@@ -14,8 +14,9 @@ use Rattle.model.specs.Bytes.{word, bytes}
 use Rattle.model.specs.Memory.{Region, locate}
 use Rattle.model.specs.Ring.{pending, plus_one}
 use Rattle.model.specs.Chain.{desc_at, tested, tested_by}
-use Rattle.model.specs.Step.{Cfg, Span, buffer, spans, apply}
+use Rattle.model.specs.Step.{Cfg, buffer, spans, apply}
 use Rattle.std.specs.Prelude.{Some}
+use Rattle.model.specs.declared.Span.{Span}
 use Rattle.model.specs.declared.Queue.{Queue}
 use Rattle.model.specs.declared.Tested.TheVariants.{Next, Last}
 use Rattle.model.specs.declared.Walk.{Walk}

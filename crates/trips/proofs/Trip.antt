@@ -8,7 +8,8 @@ use lib.ListN.{length, get_or, drop}
 use Rattle.model.specs.Bytes.{put, part, word}
 use Rattle.model.specs.Memory.{Region}
 use Rattle.model.specs.Request.{verdict}
-use Rattle.model.specs.Step.{Cfg, Span, spans, handed, disk_of}
+use Rattle.model.specs.Step.{Cfg, spans, handed, disk_of}
+use Rattle.model.specs.declared.Span.{Span}
 use Rattle.model.specs.declared.Job.{Job}
 use Rattle.model.proofs.Lists.{length-put}
 use Rattle.requests.specs.Serve.{still, total, walk, answer, stored, job_of, serve, memory_after, backing_after}

@@ -3,7 +3,8 @@ use Rattle.std.specs.Prelude.{ℕ, ◌+◌, ◌-◌, List, [], ◌∷◌, ◌≡
 use Rattle.model.specs.Bytes.{put, word}
 use Rattle.model.specs.Ring.{plus_one}
 use Rattle.model.specs.Request.{status, reported}
-use Rattle.model.specs.Step.{Span, used_at}
+use Rattle.model.specs.Step.{used_at}
+use Rattle.model.specs.declared.Span.{Span}
 use Rattle.model.specs.declared.Queue.{Queue}
 use Rattle.model.specs.declared.Job.{Job}
 use Rattle.requests.specs.Serve.{gather, total, last_byte_at}

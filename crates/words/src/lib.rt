@@ -7,7 +7,7 @@ ghost use Rattle.model.specs.Bytes.{put};
 ghost use Rattle.model.specs.Ring.{size_max};
 ghost use Rattle.words.specs.Layout.{state_words, size_word, chain_len_word, stage_len_word, taken_word, answered_word, descs_word, tag_word, job_tag, job_sector, row, row_of, job_of, phase_of, row_at, row_words, saved, kept, config_at, walk_at, place_at, memory_ok, disk_ok, queue_ok, lent_ok, tags_ok, phase_ok, enabled_ok, framed, level};
 
-use model::{Disk, Job, Phase, Place, Queue, Walk};
+use model::{Disk, Identity, Job, Phase, Place, Queue, Walk};
 
 pub mod at;
 
@@ -283,7 +283,18 @@ impl State<'_> {
         Disk {
             start: self.words[at::START],
             sectors: self.words[at::SECTORS],
-            ro: self.words[at::RO],
+            ro: self.words[at::RO] != 0,
+        }
+    }
+
+    #[tactic(auto, unfolding(crate::specs::Layout::config_at))]
+    pub fn identity(self) -> Identity
+        ensures { result ≡ (config_at self.entry.words.now).id }
+    {
+        Identity {
+            first: self.words[at::ID0],
+            second: self.words[at::ID1],
+            last: self.words[at::ID2],
         }
     }
 

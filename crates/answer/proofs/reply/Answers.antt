@@ -22,11 +22,11 @@ hand-requires-clause-count_in_bounds c = c.requires.chain-long
 pub hand-requires-clause-k_value : goal.hand-requires-clause-k_value
 hand-requires-clause-k_value c = c.requires.buffers-in
 
-pub overflow_add-at-2 : goal.overflow_add-at-2
-overflow_add-at-2 c = omega (arith, last-in _ _ _ _ _ _ _ c.requires, c.requires.last_some, c)
+pub overflow_add-at : goal.overflow_add-at
+overflow_add-at c = rw c.buffer-last.ensures (omega (arith, last-in _ _ _ _ _ _ _ c.requires, c.requires.last_some, c))
 
 pub bounds-mem-at : goal.bounds-mem-at
-bounds-mem-at c = omega (arith, last-in _ _ _ _ _ _ _ c.requires, c.requires.last_some, c.hand.auto.mem)
+bounds-mem-at c = rw c.buffer-last.ensures (omega (arith, last-in _ _ _ _ _ _ _ c.requires, c.requires.last_some, c.hand.auto.mem))
 
 pub used_entry-requires-clause-le_size : goal.used_entry-requires-clause-le_size
 used_entry-requires-clause-le_size c = c.requires.size-some
@@ -39,4 +39,4 @@ shape_of-mem c = c.used_entry.auto.mem ∙ simp length-set c.hand.auto.mem
 
 pub returns : goal.returns
 unfolding answer_stores apply
-returns c = rw (c.used_entry.ensures, c.reported.ensures, c.status-status.ensures, apply-append, ← c.hand.ensures, put_one)
+returns c = rw (c.used_entry.ensures, c.reported.ensures, c.status-status.ensures, c.buffer-last.ensures, apply-append, ← c.hand.ensures, put_one)

@@ -7,7 +7,7 @@ use Rattle.driver.proofs.writes.write.Goals as goal
 
 -- src/writes.rt:113:5
 pub spread-requires : goal.spread-requires
-spread-requires c = let f = c.requires in let z : c.args.reads - 0 ≡ c.args.reads = omega arith in record { n_in_bounds = omega arith; end_in_bounds = omega (arith, f.reads_in, f.spots-long); chain_value = rw z f.buffers-in }
+spread-requires c = let f = c.requires in let z : c.args.reads - 0 ≡ c.args.reads = omega arith in record { end_in_bounds = omega (arith, f.reads_in, f.spots-long); chain_value = rw z f.buffers-in }
 
 -- src/writes.rt:114:5
 pub chain_up-requires : goal.chain_up-requires

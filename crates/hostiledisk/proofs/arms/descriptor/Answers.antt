@@ -1,7 +1,6 @@
 use native.Mathlib.Omega.{arith}
 use mathlib.Core.Path.{refl, sym, ◌∙◌}
 use Rattle.words.proofs.Laws.{map-long}
-use Rattle.words.proofs.Laws.{framed-queue}
 use Rattle.words.proofs.Saved.{kept-descs}
 use lib.ListN.{get_or, length-set}
 use Rattle.model.specs.Bytes.{part}
@@ -13,9 +12,6 @@ use Rattle.words.specs.Layout.{config_at, regions_word}
 use Rattle.device.proofs.Laws.{met-chain}
 use Rattle.hostiledisk.proofs.Phases.{held-chain, sane-chain, framed-few, fit-held, insane, acted}
 use Rattle.hostiledisk.proofs.arms.descriptor.Goals as goal
-
-pub chain_sane-requires : goal.chain_sane-requires
-chain_sane-requires c = (framed-queue _ c.requires.frame).size-high
 
 pub overflow_mul-end : goal.overflow_mul-end
 overflow_mul-end c = omega (arith, framed-few _ c.requires.frame)

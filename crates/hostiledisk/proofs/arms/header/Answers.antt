@@ -1,13 +1,9 @@
 use native.Mathlib.Omega.{arith}
 use mathlib.Core.Path.{sym, ◌∙◌}
-use Rattle.words.proofs.Laws.{framed-queue}
 use Rattle.model.proofs.Sane.{header_ok}
 use Rattle.device.proofs.Laws.{met-header, header-fit}
 use Rattle.hostiledisk.proofs.Phases.{held-header, sane-header, ready-header, chain-long, fit-held, insane, unready, acted}
 use Rattle.hostiledisk.proofs.arms.header.Goals as goal
-
-pub header_sane-requires : goal.header_sane-requires
-header_sane-requires c = (framed-queue _ c.requires.frame).size-high
 
 pub place_ok-requires : goal.place_ok-requires
 place_ok-requires c = let h = header_ok _ _ _ _ _ (sym c.header_sane.ensures ∙ c.if-not-header_sane.false) in omega (arith, h, (chain-long _ _ _ _ _ _ (held-header _ _ _ _ _ c.requires _ _ c.walk-k.ensures c.place-at.ensures)).1)

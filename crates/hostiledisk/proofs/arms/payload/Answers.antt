@@ -1,14 +1,10 @@
 use native.Mathlib.Omega.{arith}
 use mathlib.Core.Path.{sym, ◌∙◌}
-use Rattle.words.proofs.Laws.{framed-queue}
 use Rattle.model.specs.Step.{code_after}
 use Rattle.model.proofs.Sane.{payload-ok}
 use Rattle.device.proofs.Laws.{met-paid, payload-fit}
 use Rattle.hostiledisk.proofs.Phases.{held-payload, ready-payload, chain-long, fit-held, insane, unready, acted}
 use Rattle.hostiledisk.proofs.arms.payload.Goals as goal
-
-pub payload_sane-requires : goal.payload_sane-requires
-payload_sane-requires c = (framed-queue _ c.requires.frame).size-high
 
 pub payload_ready-requires : goal.payload_ready-requires
 payload_ready-requires c = let h = payload-ok _ _ _ _ _ _ (sym c.payload_sane.ensures ∙ c.if-not-payload_sane.false) in omega (arith, h, (chain-long _ _ _ _ _ _ (held-payload _ _ _ _ _ c.requires _ _ c.walk-k.ensures c.place-at.ensures)).1)

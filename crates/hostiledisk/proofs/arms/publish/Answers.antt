@@ -6,9 +6,6 @@ use Rattle.device.proofs.Laws.{met-publish}
 use Rattle.hostiledisk.proofs.Phases.{held-publish, sane-publish, fit-held, insane, acted}
 use Rattle.hostiledisk.proofs.arms.publish.Goals as goal
 
-pub publish_sane-requires : goal.publish_sane-requires
-publish_sane-requires c = (framed-queue _ c.requires.frame).size-high
-
 pub publish-requires : goal.publish-requires
 unfolding ready
 publish-requires c = let f = fit-held _ _ _ _ c.args.chain.now _ (held-publish _ _ _ _ _ c.requires _ c.walk-k.ensures) (sane-publish _ _ _ _ (sym c.publish_sane.ensures ∙ c.if-not-publish_sane.false)) refl in rw c.queue.ensures (omega (arith, f))

@@ -11,9 +11,6 @@ pub returns-then-state-lt-STATE_WORDS : goal.returns-then-state-lt-STATE_WORDS
 unfolding hd_step
 returns-then-state-lt-STATE_WORDS c = rw (lt-ltb _ state_words c.if-state-lt-STATE_WORDS.true) (untouched-is _ _ _ _ _ _)
 
-pub broken-requires : goal.broken-requires
-broken-requires c = sym c.framed.ensures ∙ c.if-not-framed.false
-
 pub returns-then-tag-ge8 : goal.returns-then-tag-ge8
 returns-then-tag-ge8 c = rw c.broken.ensures (broken-is _ _ _ _ _ c.if-state-lt-STATE_WORDS.false (sym c.framed.ensures ∙ c.if-not-framed.false) c.if-tag-ge8.true)
 
