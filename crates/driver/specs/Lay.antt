@@ -13,7 +13,6 @@ use Rattle.model.specs.declared.Queue.{Queue}
 use Rattle.model.specs.declared.Refusal.{Refusal}
 use Rattle.requests.specs.Serve.{total}
 use Rattle.driver.specs.declared.Driver.{Driver}
-use Rattle.driver.specs.declared.Attached.{Attached}
 use Rattle.driver.specs.declared.Laid.{Laid}
 use Rattle.driver.specs.declared.NotLaid.{NotLaid}
 use Rattle.driver.specs.declared.NotLaid.TheVariants.{Memory, Counts, Outside, Form, Overlap, TooFew}
@@ -242,10 +241,15 @@ unfoldable pub published : Driver → List ℕ → List ℕ
 published d mem = pick (queue_in d.queue (length mem)) (put mem (d.queue.avail + 2) (bytes 2 d.next)) mem
 
 -- set-up: the refusals of hd_memory and hd_enable_at, in their order, or a driver with both counts at start
-unfoldable pub attached_with : ℕ → Result Queue Refusal → Attached
-attached_with start (Err e) = Attached.Refused (refusal_number e)
-attached_with start (Ok q) = pick (leb 65536 start) (Attached.Refused 46) (Attached.Ready (record { queue = q; next = start; seen = start }))
+unfoldable pub attached_with : ℕ → Result Queue Refusal → Result Driver ℕ
+attached_with start (Err e) = Err (refusal_number e)
+attached_with start (Ok q) = pick (leb 65536 start) (Err 46) (Ok (record { queue = q; next = start; seen = start }))
 
-unfoldable pub attached : List ℕ → ℕ → ℕ → ℕ → ℕ → ℕ → ℕ → Attached
+unfoldable pub attached : List ℕ → ℕ → ℕ → ℕ → ℕ → ℕ → ℕ → Result Driver ℕ
 attached words m size desc avail used start =
-    pick (eqb (memory_code m words) 0) (attached_with start (areas (regions words) size desc avail used)) (Attached.Refused (memory_code m words))
+    pick (eqb (memory_code m words) 0) (attached_with start (areas (regions words) size desc avail used)) (Err (memory_code m words))
+
+-- .. with the number of what it refuses (each refusal has its own)
+abbrev pub told : Result Driver Refusal → Result Driver ℕ
+told (Ok d) = Ok d
+told (Err e) = Err (refusal_number e)

@@ -2,28 +2,10 @@
 // before the idx that covers it, so the caller's barrier goes between them.
 ghost use Rattle.std.specs.Prelude.{◌≡◌, length};
 ghost use Rattle.model.specs.Memory.{regions};
-ghost use Rattle.driver.specs.Lay.{attached_with, attached, lay, LayIs, publish_answer, published};
+ghost use Rattle.driver.specs.Lay.{told, attached, lay, LayIs, publish_answer, published};
 
-use crate::{Ask, Attached, Driver, Laid, NotLaid, plan, room, writes};
-use model::{Queue, Refusal};
-
-fn attached_with(start: usize, found: Result<Queue, Refusal>) -> Attached
-    ensures { result ≡ attached_with start found }
-{
-    match found {
-        Err(e) => Attached::Refused(e.number()),
-        Ok(q) => {
-            if 65536 <= start {
-                return Attached::Refused(Refusal::StartCount.number());
-            }
-            Attached::Ready(Driver {
-                queue: q,
-                next: start,
-                seen: start,
-            })
-        }
-    }
-}
+use crate::{Ask, Driver, Laid, NotLaid, plan, room, writes};
+use model::Refusal;
 
 // A driver for a queue of this size at these guest addresses, over m bytes of memory with this map; both counts begin at start.
 pub fn attach(
@@ -34,16 +16,19 @@ pub fn attach(
     avail: usize,
     used: usize,
     start: usize,
-) -> Attached
-    ensures { result ≡ attached map.now m size desc avail used start }
+) -> Result<Driver, Refusal>
+    ensures { told result ≡ attached map.now m size desc avail used start }
 {
-    match regions::check_map(m, map) {
-        Ok(()) => {
-            let found = ring::areas(map, m, size, desc, avail, used);
-            attached_with(start, found)
-        }
-        Err(e) => Attached::Refused(e.number()),
+    regions::check_map(m, map)?;
+    let queue = ring::areas(map, m, size, desc, avail, used)?;
+    if 65536 <= start {
+        return Err(Refusal::StartCount);
     }
+    Ok(Driver {
+        queue,
+        next: start,
+        seen: start,
+    })
 }
 
 // Lays a request: the message, whose first 16 bytes become the header, over the readable buffers; a descriptor for each buffer;

@@ -28,13 +28,6 @@ pub struct Driver {
     pub seen: usize,
 }
 
-// Set-up was refused, or the driver.
-#[derive(Clone, Copy)]
-pub enum Attached {
-    Refused(usize),
-    Ready(Driver),
-}
-
 // What is asked: type and sector of the header, and how many of the buffers, the first ones, are readable.
 #[derive(Clone, Copy)]
 pub struct Ask {

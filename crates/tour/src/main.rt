@@ -2,7 +2,7 @@
 // reads it back. Prints what set-up answered, the two status values, and how many of the bytes came back.
 #![tactic(auto)]
 
-use driver::{Attached, Driver};
+use driver::Driver;
 use std::io;
 use trip::{NotDone, Trip};
 
@@ -101,7 +101,7 @@ fn main(rt: HostRuntime) -> io::Result<()> {
         stage: [0; STAGE_BYTES],
     };
     host.set_up(&rt)?;
-    let Attached::Ready(d) = driver::laying::attach(&MAP, 65536, 8, DESC, AVAIL, USED, START) else {
+    let Ok(d) = driver::laying::attach(&MAP, 65536, 8, DESC, AVAIL, USED, START) else {
         return Ok(());
     };
     let mut out = [0; 512];

@@ -3,7 +3,8 @@
 use crate::guest::{Bytes, Kind};
 use crate::host::{self, AVAIL, DESC, Host, USED};
 use crate::say::Hex;
-use driver::{Ask, Attached, Driver};
+use driver::{Ask, Driver};
+use model::Refusal;
 use std::io;
 
 const MAP: [usize; 3] = [0x8000_0000, 65536, 0];
@@ -104,7 +105,7 @@ const SEVEN: [usize; 16] = [
 ];
 
 // 01 §6: q = 8, the areas at their places.
-fn attach() -> Attached {
+fn attach() -> Result<Driver, Refusal> {
     driver::laying::attach(&MAP, 65536, 8, DESC, AVAIL, USED, 0)
 }
 
@@ -176,7 +177,7 @@ fn request(rt: &impl Print, host: &mut Host, d: Driver, row: &Row) -> io::Result
 }
 
 pub fn rows(rt: &impl Print, host: &mut Host) -> io::Result<()> {
-    let Attached::Ready(d) = attach() else {
+    let Ok(d) = attach() else {
         return Ok(());
     };
     for row in &ROWS {

@@ -1,17 +1,27 @@
 use mathlib.Core.Path.{sym}
-use Rattle.driver.specs.Lay.{attached}
-use borrow.Author.Tests.{ne_eqb}
+use Rattle.std.proofs.lemmas.Result.{err_from_is_err_and}
+use native.Mathlib.Omega.{arith}
+use borrow.Author.Tests.{ne_eqb, le-leb, lt-leb}
+use Rattle.driver.specs.Lay.{attached, attached_with}
 use Rattle.model.proofs.Memory.{mapped}
 use Rattle.model.proofs.SetUp.{number-some}
 use Rattle.driver.proofs.laying.attach.Goals as goal
 
-pub returns-in-Err : goal.returns-in-Err
+pub returns-in_err-check_map : goal.returns-in_err-check_map
 unfolding attached
-returns-in-Err c = rw (← c.in-Err.ensures, ne_eqb _ 0 (number-some c.in-Err.e), c.number.ensures)
+returns-in_err-check_map c = let r = err_from_is_err_and c.from_residual.result c.from_residual.ensures.1 in rw (r.1, r.2, ← c.in_err-check_map.ensures, ne_eqb _ 0 (number-some c.in_err-check_map.field-0.0))
 
-pub areas-found-requires : goal.areas-found-requires
-areas-found-requires c = (mapped _ _ (sym c.in-Ok.ensures)).each-sound
+pub areas-requires : goal.areas-requires
+areas-requires c = (mapped _ _ (sym c.in_ok-check_map.ensures)).each-sound
 
-pub returns-in-Ok : goal.returns-in-Ok
-unfolding attached
-returns-in-Ok c = rw (← c.in-Ok.ensures, ← c.areas-found.ensures) c.attached_with.ensures
+pub returns-in_err-queue : goal.returns-in_err-queue
+unfolding attached attached_with
+returns-in_err-queue c = let r = err_from_is_err_and c.from_residual-in_err-queue.result c.from_residual-in_err-queue.ensures.1 in rw (r.1, r.2, ← c.in_ok-check_map.ensures, ← c.in_err-queue.ensures)
+
+pub returns-then-start-ge65536 : goal.returns-then-start-ge65536
+unfolding attached attached_with
+returns-then-start-ge65536 c = rw (← c.in_ok-check_map.ensures, ← c.in_ok-queue.ensures, le-leb 65536 c.args.start (omega arith))
+
+pub returns : goal.returns
+unfolding attached attached_with
+returns c = rw (← c.in_ok-check_map.ensures, ← c.in_ok-queue.ensures, lt-leb 65536 c.args.start (omega arith))
