@@ -1,11 +1,11 @@
-// Has the request a form of 03 §3, and are its buffers apart?
+// Has the request a form of 03 §3, and are its buffers apart? Spots are flat words, two for each buffer, as sane::all_inside and answer::spread take them.
 ghost use Rattle.std.specs.Prelude.{◌≡◌, ◌+◌, ◌-◌, ◌*◌, ◌≤◌, ◌<◌, length};
 ghost use Rattle.model.specs.Step.{spans};
 ghost use Rattle.driver.specs.Lay.{span, formed, measured, form_ok, clear_of, separate};
 
 use model::Disk;
 
-// Bytes of the buffers from first up to end; 2,097,153 if they are more than 2,097,152.
+// Bytes of the buffers from first up to end; 2,097,153 if they are more than 2,097,152: a length too, as the definition `measured` has it.
 pub fn measure(spots: &[usize], first: usize, end: usize) -> usize
     requires { 2 * end ≤ length spots.now }
     ensures { result ≡ measured (spans (end - first) first spots.now) }

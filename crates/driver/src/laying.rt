@@ -32,7 +32,8 @@ pub fn attach(
 }
 
 // Lays a request: the message, whose first 16 bytes become the header, over the readable buffers; a descriptor for each buffer;
-// the head into the available ring. Or refuses it (60 to 65).
+// the head into the available ring. Or refuses it.
+// Each slice is lent by itself: the clause LayIs says of each what is left in it, after a refusal too.
 pub fn lay(
     d: Driver,
     own: &mut [usize],

@@ -8,7 +8,7 @@ ghost use Rattle.driver.specs.Take.{used_idx, outstanding, freed, released, coun
 
 use crate::{Answer, Driver, Strange, room};
 
-// idx of the used ring, by one load.
+// idx of the used ring, by one load; the driver's own count where this memory isn't the queue's, as the definition `used_idx` has it.
 pub fn used_idx(d: Driver, mem: &[u8]) -> usize
     ensures { result ≡ used_idx d mem.now }
 {

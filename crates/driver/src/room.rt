@@ -7,7 +7,7 @@ ghost use Rattle.driver.specs.Lay.{queue_in, ready, counts_ok, spot_of, in_memor
 
 use model::Queue;
 
-// The three areas lie in a memory of m bytes.
+// The three areas lie in a memory of m bytes. A test and no type: no function that a caller calls has a `requires` (docs/GUARANTEES.md).
 pub fn queue_in(q: Queue, m: usize) -> bool
     ensures { result ≡ queue_in q m }
 {

@@ -72,6 +72,7 @@ pub fn receive(
 }
 
 // Lays a request, has the device serve it by at most n calls of hd_step, and reads its answer.
+// Each slice is lent by itself: hd_step, as C calls it, takes the device's five so, and the clause ExchangeIs says of each what is left in it.
 pub fn exchange(
     state: &mut [usize],
     mem: &mut [u8],

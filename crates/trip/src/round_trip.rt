@@ -10,7 +10,7 @@ use driver::{Ask, Driver, reading};
 
 // Writes the message's data (its bytes after the first 16) to the disk from the sector on, and reads as many bytes as `out` holds from there. The
 // write's buffers are `bufs`, the first `reads` of them readable; the read's are `bufs2`, and its message is `header`. Each request is served by at
-// most n calls of hd_step.
+// most n calls of hd_step. Each slice is lent by itself, as for `exchange`; the clause read_back (Honest) speaks of each.
 pub fn round_trip(
     state: &mut [usize],
     mem: &mut [u8],
