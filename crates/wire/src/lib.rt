@@ -1,5 +1,5 @@
 // Numbers in bytes, lowest byte first (01, head): get and put of N bytes, used at 2, 4 and 8.
-// At these the compiler makes one load or one store of each copy (docs/TRUST.md): that needs N fixed when it compiles, and no loop.
+// Since N is fixed when it compiles, each copy is one load or one store (docs/TRUST.md), and is so before a caller's loop is laid out.
 #![tactic(auto)]
 
 ghost use Rattle.std.specs.Prelude.{◌≡◌, ◌+◌, ◌^◌, ◌<◌, ◌≤◌, length};
