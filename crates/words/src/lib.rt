@@ -395,7 +395,6 @@ impl State<'_> {
 
     #[tactic(auto, using(model::proofs::Tests::tests), unfolding(crate::specs::Layout::phase_ok))]
     fn phase_ok(self) -> bool
-        requires { get_or self.words.now size_word 0 ≤ size_max }
         ensures { result ≡ phase_ok self.entry.words.now }
     {
         tags_ok(self.words[at::TAG], self.words[at::A])
