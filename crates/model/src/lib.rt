@@ -53,6 +53,7 @@ pub struct Desc {
 }
 
 // 01 §3: what a descriptor's tests say. Broken with this reason; or its buffer lies at this offset, and it has NEXT or is the last.
+// One enum for three outcomes: a Result would put the last two into an enum of its own and say no more.
 #[derive(Clone, Copy)]
 pub enum Tested {
     Bad(usize),
@@ -141,6 +142,7 @@ pub enum Job {
 
 // The step that comes next (S1 to S7), and what it needs to know. Broken: the reason, the head, the descriptors fetched,
 // and the number of the one at which the chain was refused, 65,536 where none was (DEV-12).
+// The reason stays a number: words that anybody may have spoilt hold any, and `sane` says which are reasons. So does the 65,536, which C is shown.
 #[derive(Clone, Copy)]
 pub enum Phase {
     Poll,

@@ -84,6 +84,7 @@ pub fn areas(
     placed(q, d, a, u, tangled)
 }
 
+// Entry numbers and indices stay words: they are loaded and kept as words, so a u16 would be cast in at each call and out at each save.
 #[tactic(auto, using(model::proofs::Tests::tests), unfolding(model::specs::Ring::pending))]
 pub fn pending(idx: usize, taken: usize) -> usize
     requires idx_bound { idx < 65536 }
