@@ -3,7 +3,8 @@
 //
 // The caller lends, beside guest memory and its map (as for hd_memory):
 //   own    a word for each descriptor, 0 at the beginning: 0, or 1 + the head of the request that has it
-//   spots  two words for each buffer of a request and six more: where they lie in the slice. Read again with the answer.
+//   spots  two words for each buffer of a request and six more: where they lie in the slice. Read again with the answer. Flat words, as the
+//          device's chain, which C lends: `chain::hold`, `sane::all_inside` and `answer::spread` take both.
 //   nums   a word for each buffer of a request: scratch
 #![tactic(auto)]
 
@@ -29,6 +30,7 @@ pub struct Driver {
 }
 
 // What is asked: type and sector of the header, and how many of the buffers, the first ones, are readable.
+// The type is a number: a caller may ask for any, and laying refuses those that no disk accepts (63).
 #[derive(Clone, Copy)]
 pub struct Ask {
     pub kind: usize,

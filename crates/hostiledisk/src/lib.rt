@@ -14,7 +14,7 @@ pub mod status;
 pub mod stepping;
 
 // What hd_status shows of a phase: the reason, the step that comes next, head, descriptors and bytes fetched,
-// and the descriptor at which the chain was refused.
+// and the descriptor at which the chain was refused. All are numbers, as the words that C is shown.
 #[derive(Clone, Copy, Default)]
 pub struct Seen {
     pub reason: usize,
@@ -53,6 +53,7 @@ pub fn hd_stage_bytes() -> usize
     1048576
 }
 
+// The calls answer numbers, 0 or a refusal's, and take read_only as one: the C interface.
 #[tactic(auto, using(model::proofs::SetUp::refusals), unfolding(crate::specs::Calls::hd_memory))]
 pub fn hd_memory(state: &mut [usize], map: &[usize], mem_len: usize) -> usize
     ensures value { result ≡ (hd_memory state.old map.now mem_len).code }

@@ -22,6 +22,7 @@ pub fn note_memory(state: &mut [usize], map: &[usize], m: usize)
     regions::keep(state, at::MAP, map);
 }
 
+// ro is C's number: 0, or anything else for a read-only disk.
 pub fn note_disk(
     state: &mut [usize],
     start: usize,

@@ -62,7 +62,8 @@ pub enum Tested {
 }
 
 // The request at hand: its head, the descriptors held of it, how many of them are readable (the first ones),
-// and the numbers r and w of readable and writable bytes (03 §2).
+// and the numbers r and w of readable and writable bytes (03 §2). It has no invariant, since it is read from words that anybody may have
+// spoilt: `sane` says which are a chain's. That w is 1 or more holds of a complete chain alone.
 #[derive(Clone, Copy)]
 pub struct Walk {
     pub head: usize,
@@ -72,7 +73,7 @@ pub struct Walk {
     pub w: usize,
 }
 
-// The next readable byte to fetch: in this buffer of the chain, after this many bytes of it.
+// The next readable byte to fetch: in this buffer of the chain, after this many bytes of it. It has no invariant: the chain is elsewhere.
 #[derive(Clone, Copy)]
 pub struct Place {
     pub buf: usize,

@@ -1,5 +1,5 @@
 // The memory map (01 §1): set-up's refusals 20 to 24, and where a range of guest bytes lies in the slice.
-// Up to 32 regions (DEV-13), three words each in lent memory: guest address, length, offset in the slice.
+// Up to 32 regions (DEV-13), three words each: guest address, length, offset in the slice. They stay flat words, as C gives and lends them.
 #![tactic(auto)]
 
 ghost use Rattle.std.specs.Prelude.{◌≡◌, ◌+◌, ◌≤◌, eqb, length, true};

@@ -63,7 +63,7 @@ fn exactly(r: usize, w: usize, n: usize, job: Job) -> Job
     if r == 16 && w == n { job } else { Job::Failed }
 }
 
-// The table of 03 §3.
+// The table of 03 §3. `kind` is the guest's number, and it may be any.
 pub fn verdict(d: Disk, kind: usize, sector: usize, r: usize, w: usize) -> Job
     requires { 1 ≤ w }
     ensures { result ≡ verdict d kind sector r w }

@@ -10,11 +10,11 @@ ghost use Rattle.model.specs.Step.{used_at};
 use model::{Phase, Queue, Refusal, Walk};
 
 // A power of two from 1 to 1,024 (DEV-13).
-#[tactic(auto, using(model::proofs::Tests::tests), unfolding(model::specs::Ring::among, model::specs::Ring::queue_size_ok))]
+#[tactic(auto, using(crate::proofs::Sizes::powers))]
 pub fn size_ok(q: usize) -> bool
     ensures { result ≡ queue_size_ok q }
 {
-    matches!(q, 1 | 2 | 4 | 8 | 16 | 32 | 64 | 128 | 256 | 512 | 1024)
+    q <= 1024 && q.is_power_of_two()
 }
 
 #[tactic(auto, using(model::proofs::Tests::tests), unfolding(model::specs::Ring::aligned))]
@@ -24,6 +24,7 @@ fn aligned(desc: usize, avail: usize, used: usize) -> bool
     desc % 16 == 0 && avail % 2 == 0 && used % 4 == 0
 }
 
+// That q is at most 1,024 is for the products alone, here, in `chain::described` and in the driver: a type for it would be no plainer.
 #[tactic(auto, using(model::proofs::Tests::tests), unfolding(model::specs::Ring::entangled))]
 fn entangled(q: usize, desc: usize, avail: usize, used: usize) -> bool
     requires { q ≤ size_max }

@@ -11,7 +11,7 @@ use model::{Disk, Identity, Job, Phase, Place, Queue, Walk};
 
 pub mod at;
 
-// The phase as numbers.
+// The phase as numbers, its tag too: they are words of the state, which C lends and anybody may spoil.
 #[derive(Clone, Copy, Default)]
 pub struct Row {
     pub tag: usize,
