@@ -16,7 +16,7 @@ use Rattle.model.specs.Sane.{all_inside}
 use Rattle.model.proofs.Tests.{told, both-split, on}
 use Rattle.model.proofs.Lists.{put-put, put-nil, length_part, take_part}
 use Rattle.model.proofs.Step.{spans-turn, spans-end}
-use Rattle.model.proofs.Sane.{inside-at}
+use Rattle.model.proofs.Sane.{inside-at, inside-here, inside-rest}
 use Rattle.requests.specs.Serve.{gather}
 use Rattle.driver.specs.Take.{freed, released, spots_in, countable, judged, outstanding}
 use Rattle.driver.proofs.Laws.{queue-ok}
@@ -114,6 +114,11 @@ spots-in-ok m spots reads e t =
       last-in = rw p at (inside-at m reads e spots (e - 1 - reads) (omega arith) d.0);
     }
 
+-- .. in numbers alone
+pub spots-room : (m : ℕ) (spots : List ℕ) (reads e : ℕ) → spots_in m spots reads e ≡ true
+    → (1 ≤ e) × (2 * e ≤ length spots) × (1 ≤ get_or spots (2 * (e - 1) + 1) 0) × (get_or spots (2 * (e - 1)) 0 + get_or spots (2 * (e - 1) + 1) 0 ≤ m)
+spots-room m spots reads e t = let s = spots-in-ok m spots reads e t in (s.some, s.long, s.last_some, s.last-in)
+
 pub countable-ok : (d : Driver) (m own idx : ℕ) → countable d m own idx ≡ true → (d.queue.size ≤ own) × (idx < 65536) × (d.seen < 65536)
 unfolding countable
 countable-ok d m own idx t =
@@ -145,3 +150,15 @@ judged-answer d m own idx id len a =
     record { head_in = omega (arith, ltb-true id d.queue.size (both-split (ltb id d.queue.size) _ o).0); own-long = p.0; small = s.small })
     (λ o e. absurd (cc)))))
     (λ k e. absurd (cc))
+
+-- for `search`: what the tests of reading say
+pub ruleset in_spots = (spots-in-ok, spots-room)
+
+pub ruleset counted = (countable-ok)
+
+pub ruleset answered = (judged-answer)
+
+-- .. the turns and the ends of the loops
+pub ruleset turns = (released-turn)
+
+pub ruleset gathered = (gather-turn, gather-end, inside-here, inside-rest)

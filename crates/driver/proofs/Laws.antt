@@ -11,7 +11,7 @@ use Rattle.model.proofs.Tests.{told, both-split}
 use Rattle.model.proofs.Ring.{size-range}
 use lib.Seq.{take_all, take-append-le, take-suc, take-nil}
 use lib.Dec.{leb, ltb, eqb}
-use lib.ListN.{get_or, length, take, length-append, length-take}
+use lib.ListN.{get_or, length, take, length-append, length-take, length-set}
 use Rattle.model.specs.Pick.{pick, both}
 use Rattle.model.specs.Bytes.{put, part, bytes}
 use Rattle.model.specs.Memory.{Region, overlap, sound}
@@ -19,7 +19,7 @@ use Rattle.model.specs.Ring.{queue_size_ok, size_max}
 use Rattle.model.specs.declared.Queue.{Queue}
 use Rattle.model.specs.Step.{spans, apply, scatter}
 use Rattle.model.specs.declared.Span.{Span}
-use Rattle.model.proofs.Lists.{put-put, put-nil, part-zero, part-first}
+use Rattle.model.proofs.Lists.{put-put, put-nil, put_one, part-zero, part-first}
 use Rattle.model.proofs.Words.{length-bytes}
 use Rattle.model.proofs.Step.{spans-turn, spans-end, apply-append}
 use Rattle.requests.specs.Serve.{total}
@@ -241,3 +241,28 @@ write-stores q nx message reads e bufs spots nums mem =
       apply-append (scatter (spans reads 0 spots) message) (links bufs nums q.desc reads e e 0 ++ (record { to = avail_at q nx; bytes = bytes 2 (get_or nums 0 0) } ∷ [])) mem,
       apply-append (links bufs nums q.desc reads e e 0) (record { to = avail_at q nx; bytes = bytes 2 (get_or nums 0 0) } ∷ []) (apply (scatter (spans reads 0 spots) message) mem),
     )
+
+-- for `search`: what the tests of a queue say
+pub ruleset queues = (queue-ok)
+
+pub ruleset sizes = (size-range)
+
+-- .. the turns and the ends of the loops
+pub ruleset totals = (total-turn, total-end)
+
+pub ruleset clears = (clear-turn, clear-end)
+
+pub ruleset apart = (separate-turn, separate-end)
+
+pub ruleset parts = (part-turn, part_end, length-set)
+
+pub ruleset chained = (links-turn, links_end)
+
+pub ruleset chosen = (min-leb)
+
+-- .. and writes, one behind the other or of nothing
+pub ruleset puts = (areas-put, descriptor-put, header-put)
+
+pub ruleset noting = (put_one, put-nil)
+
+pub ruleset stored = (write-stores)

@@ -6,6 +6,7 @@ ghost use Rattle.driver.specs.Lay.{span, formed, measured, form_ok, clear_of, se
 use model::Disk;
 
 // Bytes of the buffers from first up to end; 2,097,153 if they are more than 2,097,152: a length too, as the definition `measured` has it.
+#[tactic(auto, using(crate::proofs::Laws::totals), unfolding(crate::specs::Lay::measured))]
 pub fn measure(spots: &[usize], first: usize, end: usize) -> usize
     requires { 2 * end ≤ length spots.now }
     ensures { result ≡ measured (spans (end - first) first spots.now) }
@@ -22,6 +23,7 @@ pub fn measure(spots: &[usize], first: usize, end: usize) -> usize
 }
 
 // Would the largest disk accept it, at sector 0?
+#[tactic(auto, using(model::proofs::Tests::tests), unfolding(crate::specs::Lay::formed))]
 pub fn formed(kind: usize, r: usize, w: usize) -> bool
     ensures { result ≡ formed kind r w }
 {
@@ -36,6 +38,7 @@ pub fn formed(kind: usize, r: usize, w: usize) -> bool
     request::status(request::verdict(largest, kind, 0, r, w)) == 0
 }
 
+#[tactic(auto, using(model::proofs::Tests::tests), unfolding(crate::specs::Lay::form_ok))]
 pub fn form_ok(kind: usize, r: usize, spots: &[usize], reads: usize, e: usize) -> bool
     requires reads_le_e { reads ≤ e }
     requires e_in_bounds { 2 * e ≤ length spots.now }
@@ -49,6 +52,7 @@ pub fn form_ok(kind: usize, r: usize, spots: &[usize], reads: usize, e: usize) -
 }
 
 // Has the range no byte in common with the spots from first up to end?
+#[tactic(auto, using(crate::proofs::Laws::clears))]
 fn clear_of(spots: &[usize], first: usize, end: usize, at: usize, len: usize) -> bool
     requires { 2 * end ≤ length spots.now }
     ensures { result ≡ clear_of (span at len) (spans (end - first) first spots.now) }
@@ -62,6 +66,7 @@ fn clear_of(spots: &[usize], first: usize, end: usize, at: usize, len: usize) ->
 }
 
 // Have no two of the spots up to end a byte in common?
+#[tactic(auto, using(crate::proofs::Laws::apart))]
 pub fn separate(spots: &[usize], end: usize) -> bool
     requires { 2 * end ≤ length spots.now }
     ensures { result ≡ separate (spans end 0 spots.now) }

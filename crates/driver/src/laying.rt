@@ -74,6 +74,7 @@ pub fn lay(
 }
 
 // Shows the device every request that was laid: idx of the available ring, by one store.
+#[tactic(auto, using(model::proofs::Tests::tests, crate::proofs::Laws::queues), unfolding(crate::specs::Lay::publish_answer, crate::specs::Lay::published))]
 pub fn publish(d: Driver, mem: &mut [u8]) -> Result<(), NotLaid>
     ensures value { result ≡ publish_answer d (length mem.old) }
     ensures mem_after { mem.new ≡ published d mem.old }

@@ -8,6 +8,7 @@ use crate::{NotLaid, form, room};
 use model::Queue;
 
 // Descriptor i is noted if it is free and still wanted.
+#[tactic(auto, using(model::proofs::Tests::tests, crate::proofs::Laws::noting), unfolding(crate::specs::Lay::noted))]
 fn note(state: usize, i: usize, n: usize, k: usize, nums: &mut [usize]) -> usize
     requires { n ≤ length nums.old }
     ensures value { result ≡ k + length (noted state i n k) }
@@ -24,6 +25,7 @@ fn note(state: usize, i: usize, n: usize, k: usize, nums: &mut [usize]) -> usize
 }
 
 // The numbers of the first n free descriptors, lowest first; false if there are fewer.
+#[tactic(auto, using(crate::proofs::Laws::chosen))]
 fn choose(own: &[usize], q: usize, n: usize, nums: &mut [usize]) -> bool
     requires q_in_bounds { q ≤ length own.now }
     requires n_in_bounds { n ≤ length nums.old }
@@ -38,6 +40,7 @@ fn choose(own: &[usize], q: usize, n: usize, nums: &mut [usize]) -> bool
 }
 
 // The buffers are in memory: are they a request, apart, and no more than there are free descriptors?
+#[tactic(auto, using(model::proofs::Tests::tests), unfolding(crate::specs::Lay::plan_on))]
 fn plan_on(
     q: usize,
     own: &[usize],

@@ -9,6 +9,7 @@ ghost use Rattle.driver.specs.Take.{used_idx, outstanding, freed, released, coun
 use crate::{Answer, Driver, Strange, room};
 
 // idx of the used ring, by one load; the driver's own count where this memory isn't the queue's, as the definition `used_idx` has it.
+#[tactic(auto, using(model::proofs::Tests::tests, crate::proofs::Laws::queues), unfolding(crate::specs::Take::used_idx))]
 pub fn used_idx(d: Driver, mem: &[u8]) -> usize
     ensures { result ≡ used_idx d mem.now }
 {
@@ -19,6 +20,7 @@ pub fn used_idx(d: Driver, mem: &[u8]) -> usize
     wire::get::<2>(mem, q.used + 2)
 }
 
+#[tactic(auto, using(model::proofs::Tests::tests), unfolding(crate::specs::Take::outstanding))]
 fn outstanding(q: usize, own: &[usize], id: usize) -> bool
     requires { q ≤ length own.now }
     ensures { result ≡ outstanding q own.now id }
@@ -27,6 +29,7 @@ fn outstanding(q: usize, own: &[usize], id: usize) -> bool
 }
 
 // Is there an answer, and does it name an outstanding request? Sees no guest memory.
+#[tactic(auto, using(model::proofs::Tests::tests, crate::proofs::Answers::counted), unfolding(crate::specs::Take::judged))]
 fn judge(
     d: Driver,
     m: usize,
@@ -64,6 +67,7 @@ fn judge(
 }
 
 // This memory is the queue's, there is a word for each descriptor, and the two indices are indices.
+#[tactic(auto, using(model::proofs::Tests::tests), unfolding(crate::specs::Take::countable))]
 fn countable(d: Driver, m: usize, own: usize, idx: usize) -> bool
     ensures { result ≡ countable d m own idx }
 {
@@ -77,6 +81,7 @@ fn countable(d: Driver, m: usize, own: usize, idx: usize) -> bool
 }
 
 // Half of the next used entry: its id (0) or its length (4).
+#[tactic(auto, using(model::proofs::Tests::tests, crate::proofs::Laws::queues), unfolding(crate::specs::Take::used_word))]
 fn used_word(d: Driver, mem: &[u8], half: usize) -> usize
     requires { half ≤ 4 }
     ensures { result ≡ used_word d mem.now half }
@@ -89,6 +94,7 @@ fn used_word(d: Driver, mem: &[u8], half: usize) -> usize
 }
 
 // The descriptors that belong to v are free again.
+#[tactic(auto, using(crate::proofs::Answers::turns), unfolding(crate::specs::Take::released))]
 fn release(own: &mut [usize], q: usize, v: usize)
     requires { q ≤ length own.old }
     ensures { own.new ≡ released q v own.old }
@@ -98,6 +104,7 @@ fn release(own: &mut [usize], q: usize, v: usize)
     }
 }
 
+#[tactic(auto, using(model::proofs::Tests::tests), unfolding(crate::specs::Take::freed))]
 fn free_one(own: &mut [usize], i: usize, v: usize)
     requires { i < length own.old }
     ensures { own.new ≡ freed i v own.old }
@@ -108,6 +115,7 @@ fn free_one(own: &mut [usize], i: usize, v: usize)
 }
 
 // The next answer, if idx (of `used_idx`) says that there is one. Its descriptors come back.
+#[tactic(auto, using(model::proofs::Tests::tests, crate::proofs::Answers::answered), unfolding(crate::specs::Take::taken, crate::specs::Take::own_after))]
 pub fn take(d: Driver, own: &mut [usize], mem: &[u8], idx: usize) -> Result<Option<Answer>, Strange>
     ensures value { result ≡ taken d own.old mem.now idx }
     ensures own_after { own.new ≡ own_after d.queue.size own.old result }
@@ -122,6 +130,7 @@ pub fn take(d: Driver, own: &mut [usize], mem: &[u8], idx: usize) -> Result<Opti
 }
 
 // A request's spots: e buffers, the first `reads` readable; the writable ones lie in m bytes, and the last is not empty.
+#[tactic(auto, using(model::proofs::Tests::tests), unfolding(crate::specs::Take::spots_in))]
 fn spots_in(m: usize, spots: &[usize], reads: usize, e: usize) -> bool
     ensures { result ≡ spots_in m spots.now reads e }
 {
@@ -141,6 +150,7 @@ fn spots_in(m: usize, spots: &[usize], reads: usize, e: usize) -> bool
 }
 
 // The status byte of an answered request.
+#[tactic(auto, using(model::proofs::Tests::tests, crate::proofs::Answers::in_spots), unfolding(crate::specs::Take::status_of))]
 pub fn status(mem: &[u8], spots: &[usize], reads: usize, e: usize) -> Option<u8>
     ensures { result ≡ status_of mem.now spots.now reads e }
 {
@@ -153,6 +163,7 @@ pub fn status(mem: &[u8], spots: &[usize], reads: usize, e: usize) -> Option<u8>
 }
 
 // The bytes of the buffers from first up to end, as one string, as many as `out` holds.
+#[tactic(auto, using(crate::proofs::Answers::gathered))]
 fn collect(mem: &[u8], spots: &[usize], first: usize, end: usize, out: &mut [u8])
     requires end_in_bounds { 2 * end ≤ length spots.now }
     requires spots_value { all_inside (length mem.now) (spans (end - first) first spots.now) ≡ true }
@@ -167,6 +178,7 @@ fn collect(mem: &[u8], spots: &[usize], first: usize, end: usize, out: &mut [u8]
 }
 
 // The data of an answered request, as much as `out` holds; false, and nothing written, where the spots aren't a request's.
+#[tactic(auto, using(model::proofs::Tests::tests, crate::proofs::Answers::in_spots), unfolding(crate::specs::Take::data_of))]
 pub fn read(mem: &[u8], spots: &[usize], reads: usize, e: usize, out: &mut [u8]) -> bool
     ensures value { result ≡ spots_in (length mem.now) spots.now reads e }
     ensures out_after { out.new ≡ data_of mem.now spots.now reads e out.old }

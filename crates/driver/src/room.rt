@@ -8,6 +8,7 @@ ghost use Rattle.driver.specs.Lay.{queue_in, ready, counts_ok, spot_of, in_memor
 use model::Queue;
 
 // The three areas lie in a memory of m bytes. A test and no type: no function that a caller calls has a `requires` (docs/GUARANTEES.md).
+#[tactic(auto, using(model::proofs::Tests::tests, crate::proofs::Laws::sizes), unfolding(crate::specs::Lay::queue_in, model::specs::Sane::inside))]
 pub fn queue_in(q: Queue, m: usize) -> bool
     ensures { result ≡ queue_in q m }
 {
@@ -25,6 +26,7 @@ pub fn queue_in(q: Queue, m: usize) -> bool
 }
 
 // The map is one that set-up allows, the queue lies in this memory, and the driver has a word for each of its descriptors.
+#[tactic(auto, using(model::proofs::Tests::tests), unfolding(crate::specs::Lay::ready))]
 pub fn ready(q: Queue, map: &[usize], m: usize, own: usize) -> bool
     ensures { result ≡ ready q (regions map.now) m own }
 {
@@ -35,6 +37,7 @@ pub fn ready(q: Queue, map: &[usize], m: usize, own: usize) -> bool
 }
 
 // Whole buffers, at most q, and private memory for them.
+#[tactic(auto, using(model::proofs::Tests::tests), unfolding(crate::specs::Lay::counts_ok))]
 pub fn counts_ok(q: usize, words: usize, reads: usize, spots: usize, nums: usize) -> bool
     requires { q ≤ size_max }
     ensures { result ≡ counts_ok q words reads spots nums }
@@ -85,6 +88,7 @@ pub fn settle(map: &[usize], m: usize, bufs: &[usize], e: usize, spots: &mut [us
 }
 
 // The areas' spots, behind those of e buffers.
+#[tactic(auto, using(crate::proofs::Laws::puts), unfolding(model::specs::Chain::held, crate::specs::Lay::area_words))]
 pub fn note_areas(q: Queue, e: usize, spots: &mut [usize])
     requires size_le_size_max { q.size ≤ size_max }
     requires e_le_size_max { e ≤ size_max }

@@ -8,6 +8,7 @@ ghost use Rattle.driver.specs.Fit.{Numbers, WriteFit};
 
 use model::Queue;
 
+#[tactic(auto, using(crate::proofs::Laws::puts))]
 fn put_header(message: &mut [u8], kind: usize, sector: usize)
     requires { 16 ≤ length message.old }
     ensures { message.new ≡ put message.old 0 (header kind sector) }
@@ -17,6 +18,7 @@ fn put_header(message: &mut [u8], kind: usize, sector: usize)
     wire::put::<8>(message, 8, sector);
 }
 
+#[tactic(auto, using(crate::proofs::Laws::puts))]
 fn put_descriptor(mem: &mut [u8], at: usize, addr: usize, len: usize, flags: usize, next: usize)
     requires { at + 16 ≤ length mem.old }
     ensures { mem.new ≡ put mem.old at (descriptor addr len flags next) }
@@ -27,6 +29,7 @@ fn put_descriptor(mem: &mut [u8], at: usize, addr: usize, len: usize, flags: usi
     wire::put::<2>(mem, at + 14, next);
 }
 
+#[tactic(auto, using(model::proofs::Tests::tests), unfolding(crate::specs::Lay::flags_of))]
 fn flags_of(i: usize, reads: usize, e: usize) -> usize
     requires { i < e }
     ensures { result ≡ flags_of (ltb i reads) (eqb (i + 1) e) }
@@ -39,6 +42,7 @@ fn flags_of(i: usize, reads: usize, e: usize) -> usize
     }
 }
 
+#[tactic(auto, using(model::proofs::Tests::tests), unfolding(crate::specs::Lay::next_of))]
 fn next_of(nums: &[usize], i: usize, e: usize) -> usize
     requires i_lt_e { i < e }
     requires e_in_bounds { e ≤ length nums.now }
@@ -51,6 +55,7 @@ fn next_of(nums: &[usize], i: usize, e: usize) -> usize
 }
 
 // The e buffers' descriptors, each with the number that was chosen for it.
+#[tactic(auto, using(crate::proofs::Laws::chained), unfolding(crate::specs::Fit::Numbers, crate::specs::Lay::link, model::specs::Step::apply))]
 fn chain_up(mem: &mut [u8], q: Queue, bufs: &[usize], nums: &[usize], reads: usize, e: usize)
     requires size_in_bounds { q.desc + 16 * q.size ≤ length mem.old }
     requires e_in_bounds { 2 * e ≤ length bufs.now }
@@ -74,6 +79,7 @@ fn chain_up(mem: &mut [u8], q: Queue, bufs: &[usize], nums: &[usize], reads: usi
 }
 
 // The e descriptors belong to the request now.
+#[tactic(auto, using(crate::proofs::Laws::parts), unfolding(crate::specs::Fit::Numbers, crate::specs::Lay::marked))]
 fn mark(own: &mut [usize], nums: &[usize], e: usize, v: usize)
     requires e_in_bounds { e ≤ length nums.now }
     requires numbers { Numbers (length own.old) e nums.now }
@@ -85,6 +91,7 @@ fn mark(own: &mut [usize], nums: &[usize], e: usize, v: usize)
 }
 
 // To guest memory, in this order: the message, which has its header by now, the descriptors, the head.
+#[tactic(auto, using(crate::proofs::Laws::stored))]
 pub fn write(
     q: Queue,
     next: usize,
@@ -105,6 +112,7 @@ pub fn write(
 }
 
 // To the driver's own words and the message: whose the descriptors are, and the header.
+#[tactic(auto, unfolding(crate::specs::Fit::Numbers))]
 pub fn note(
     own: &mut [usize],
     nums: &[usize],

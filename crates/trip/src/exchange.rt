@@ -10,6 +10,7 @@ use crate::{Done, NotDone, serve};
 use driver::{Answer, Ask, Driver, Laid, NotLaid, Strange, laying, reading};
 
 // Lays a request and publishes it.
+#[tactic(auto, using(std::proofs::lemmas::Result::err_from_is_err_and), unfolding(crate::specs::Exchange::sent, crate::specs::Exchange::shown_in))]
 pub fn send(
     d: Driver,
     own: &mut [usize],
@@ -29,6 +30,7 @@ pub fn send(
 }
 
 // Is the next answer one to the request with this head?
+#[tactic(auto, using(model::proofs::Tests::tests, std::proofs::lemmas::Result::err_from_is_err_and), unfolding(crate::specs::Exchange::received, crate::specs::Exchange::with_status))]
 fn received(
     head: usize,
     taken: Result<Option<Answer>, Strange>,
@@ -73,6 +75,7 @@ pub fn receive(
 
 // Lays a request, has the device serve it by at most n calls of hd_step, and reads its answer.
 // Each slice is lent by itself: hd_step, as C calls it, takes the device's five so, and the clause ExchangeIs says of each what is left in it.
+#[tactic(auto, using(std::proofs::lemmas::Result::err_from_is_err_and), unfolding(crate::specs::Exchange::exchange, crate::specs::Exchange::after, crate::specs::Exchange::reading))]
 pub fn exchange(
     state: &mut [usize],
     mem: &mut [u8],

@@ -3,6 +3,7 @@ ghost use Rattle.hostiledisk.specs.Calls.{untouched, StepIs};
 ghost use Rattle.trip.specs.Until.{until};
 
 // At most n calls. Answers what the last call answered, 1 if none was made: the numbers are hd_step's, which C calls.
+#[tactic(auto, using(crate::proofs::Turns::goes_on, crate::proofs::Turns::all_made))]
 pub fn serve(
     state: &mut [usize],
     mem: &mut [u8],

@@ -1,8 +1,6 @@
-use mathlib.Core.Path.{◌≡◌, refl, sym, ◌∙◌}
-use Rattle.driver.specs.Lay.{free}
+use mathlib.Core.Path.{refl, sym, ◌∙◌}
 use native.Mathlib.Omega.{arith}
-use lib.ListN.{length}
-use Rattle.driver.proofs.Laws.{choose-start, choose-turn, min-leb}
+use Rattle.driver.proofs.Laws.{choose-start, choose-turn}
 use native.Mathlib.Numerals.{add-one}
 use Rattle.driver.proofs.plan.choose.Goals as goal
 
@@ -13,7 +11,3 @@ loop-i-init c = let t = choose-start c.args.own.now c.args.nums.now c.args.n in 
 -- src/plan.rt:40:5
 pub loop-i-preserved : goal.loop-i-preserved
 loop-i-preserved c = let t = choose-turn c.args.own.now c.args.nums.now c.loop-i.i c.args.n c.loop-i.k (omega arith) c.loop-i.invariant.1 in (omega arith, rw add-one (c.note-k.ensures.value ∙ sym t.0), omega (arith, c.note-k.auto.nums, c.loop-i.invariant.2), rw add-one (rw (c.note-k.ensures.nums_after, c.loop-i.invariant.3) (sym t.1)))
-
--- src/plan.rt:32:1
-pub returns : goal.returns
-returns c = let z : c.loop-i.i ≡ c.args.q = omega arith in let k = rw z at c.loop-i.invariant.1 in record { value = rw k (min-leb c.args.n (length (free c.args.q c.args.own.now))); nums_after = rw z at c.loop-i.invariant.3 }
