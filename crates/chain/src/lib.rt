@@ -1,14 +1,15 @@
 // The chain (01 §3): a descriptor fetched once, its tests in their order, and the private copy of the chain.
 #![tactic(auto)]
 
-ghost use Rattle.std.specs.Prelude.{◌≡◌, true, ◌+◌, ◌*◌, ◌%◌, ◌≤◌, ◌<◌, ◌^◌, length, leb, ltb, eqb};
+ghost use Rattle.std.specs.Prelude.{◌≡◌, ◌+◌, ◌*◌, ◌%◌, ◌≤◌, ◌<◌, ◌^◌, length, leb, ltb, eqb};
 ghost use Rattle.model.specs.Ring.{size_max};
 ghost use Rattle.model.specs.Pick.{both};
-ghost use Rattle.model.specs.Memory.{regions, sound};
+ghost use Rattle.model.specs.Memory.{regions};
 ghost use Rattle.model.specs.Chain.{desc_at, tested_by, tested, tally, held, complete, described, descs_after, keeps};
 ghost use Rattle.chain.specs.Bounds.{DescOk};
 
 use model::{Desc, Job, Linked, Phase, Place, Tested, Walk};
+use regions::Map;
 
 // S3 fetches a descriptor, all 16 bytes of it. Whatever the guest does to them afterwards, this copy counts.
 pub fn fetch(mem: &[u8], at: usize) -> Desc
@@ -122,8 +123,7 @@ pub fn complete(k: Walk, cur: usize) -> Phase
 // S3, decided: descriptor `cur` of the table has been fetched. It also answers where the chain was refused and how many
 // descriptors were fetched, or how many a complete chain has; `n` is what the last one had (DEV-12).
 pub fn described(
-    map: &[usize],
-    m: usize,
+    map: Map,
     q: usize,
     k: Walk,
     cur: usize,
@@ -131,7 +131,6 @@ pub fn described(
     n: usize,
     chain: &mut [usize],
 ) -> Linked
-    requires map_value { sound m (regions map.now) ≡ true }
     requires q_le_size_max { q ≤ size_max }
     requires q_in_bounds { 2 * q ≤ length chain.old }
     requires count_le_q { k.count ≤ q }
@@ -139,11 +138,11 @@ pub fn described(
     requires r_bound { k.r < 2 ^ 62 }
     requires w_bound { k.w < 2 ^ 62 }
     requires len_bound { d.len < 2 ^ 32 }
-    ensures phase_value { result.phase ≡ described k cur d (tested (regions map.now) q k d) }
-    ensures descs_value { result.descs ≡ descs_after n k (tested (regions map.now) q k d) }
-    ensures chain_after { chain.new ≡ keeps chain.old k d (tested (regions map.now) q k d) }
+    ensures phase_value { result.phase ≡ described k cur d (tested (regions map.entry.words.now) q k d) }
+    ensures descs_value { result.descs ≡ descs_after n k (tested (regions map.entry.words.now) q k d) }
+    ensures chain_after { chain.new ≡ keeps chain.old k d (tested (regions map.entry.words.now) q k d) }
 {
-    let found = regions::locate(map, m, d.addr, d.len);
+    let found = map.locate(d.addr, d.len);
     let t = judge(q, k.count, k.reads, d.len, d.flags, d.next, found);
     match t {
         Tested::Bad(reason) => Linked {

@@ -2,15 +2,16 @@
 // decides from private values alone, and writes without a decision.
 #![tactic(auto)]
 
-ghost use Rattle.std.specs.Prelude.{◌≡◌, true, ◌+◌, ◌*◌, ◌%◌, ◌≤◌, ◌<◌, length};
+ghost use Rattle.std.specs.Prelude.{◌≡◌, ◌+◌, ◌*◌, ◌%◌, ◌≤◌, ◌<◌, length};
 ghost use Rattle.model.specs.Bytes.{put, word, bytes};
-ghost use Rattle.model.specs.Memory.{regions, sound};
+ghost use Rattle.model.specs.Memory.{regions};
 ghost use Rattle.model.specs.Ring.{polled, headed, plus_one, size_max};
 ghost use Rattle.model.specs.Chain.{desc_at, tested, described, descs_after, keeps};
 ghost use Rattle.model.specs.Step.{code_after};
 ghost use Rattle.device.specs.Outcome.{number};
 
 use model::{Disk, Identity, Linked, Phase, Queue, Walk};
+use regions::Map;
 
 pub mod gather;
 
@@ -77,15 +78,13 @@ pub fn entry(queue: Queue, taken: usize, mem: &[u8]) -> Phase
 // S3: one descriptor. `n` is the number of descriptors of the last complete chain (DEV-12).
 pub fn descriptor(
     queue: Queue,
-    map: &[usize],
-    m: usize,
+    map: Map,
     k: Walk,
     cur: usize,
     n: usize,
     mem: &[u8],
     chain: &mut [usize],
 ) -> Linked
-    requires map_value { sound m (regions map.now) ≡ true }
     requires size_le_size_max { queue.size ≤ size_max }
     requires size_in_bounds { queue.desc + 16 * queue.size ≤ length mem.now }
     requires size_in_bounds_2 { 2 * queue.size ≤ length chain.old }
@@ -94,12 +93,12 @@ pub fn descriptor(
     requires reads_le_count { k.reads ≤ k.count }
     requires r_bound { k.r ≤ 4294967295 * k.reads }
     requires w_bound { k.w ≤ 4294967295 * k.count }
-    ensures phase_value { result.phase ≡ described k cur (desc_at (queue.desc + 16 * cur) mem.now) (tested (regions map.now) queue.size k (desc_at (queue.desc + 16 * cur) mem.now)) }
-    ensures descs_value { result.descs ≡ descs_after n k (tested (regions map.now) queue.size k (desc_at (queue.desc + 16 * cur) mem.now)) }
-    ensures chain_after { chain.new ≡ keeps chain.old k (desc_at (queue.desc + 16 * cur) mem.now) (tested (regions map.now) queue.size k (desc_at (queue.desc + 16 * cur) mem.now)) }
+    ensures phase_value { result.phase ≡ described k cur (desc_at (queue.desc + 16 * cur) mem.now) (tested (regions map.entry.words.now) queue.size k (desc_at (queue.desc + 16 * cur) mem.now)) }
+    ensures descs_value { result.descs ≡ descs_after n k (tested (regions map.entry.words.now) queue.size k (desc_at (queue.desc + 16 * cur) mem.now)) }
+    ensures chain_after { chain.new ≡ keeps chain.old k (desc_at (queue.desc + 16 * cur) mem.now) (tested (regions map.entry.words.now) queue.size k (desc_at (queue.desc + 16 * cur) mem.now)) }
 {
     let d = chain::fetch(mem, queue.desc + 16 * cur);
-    chain::described(map, m, queue.size, k, cur, d, n, chain)
+    chain::described(map, queue.size, k, cur, d, n, chain)
 }
 
 // S7: idx of the used ring, alone.

@@ -6,6 +6,7 @@ ghost use Rattle.driver.specs.Lay.{told, attached, lay, LayIs, publish_answer, p
 
 use crate::{Ask, Driver, Laid, NotLaid, plan, room, writes};
 use model::Refusal;
+use regions::Map;
 
 // A driver for a queue of this size at these guest addresses, over m bytes of memory with this map; both counts begin at start.
 pub fn attach(
@@ -20,7 +21,8 @@ pub fn attach(
     ensures { told result ≡ attached map.now m size desc avail used start }
 {
     regions::check_map(m, map)?;
-    let queue = ring::areas(map, m, size, desc, avail, used)?;
+    let map = Map { words: map, len: m };
+    let queue = ring::areas(map, size, desc, avail, used)?;
     if 65536 <= start {
         return Err(Refusal::StartCount);
     }

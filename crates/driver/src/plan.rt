@@ -6,6 +6,7 @@ ghost use Rattle.driver.specs.Lay.{free, noted, plan_on, plan, PlanIs};
 
 use crate::{NotLaid, form, room};
 use model::Queue;
+use regions::Map;
 
 // Descriptor i is noted if it is free and still wanted.
 #[tactic(auto, using(model::proofs::Tests::tests, crate::proofs::Laws::noting), unfolding(crate::specs::Lay::noted))]
@@ -91,7 +92,8 @@ pub fn plan(
         return Err(NotLaid::Counts);
     }
     let e = bufs.len() / 2;
-    if !room::settle(map, m, bufs, e, spots) {
+    let map = Map { words: map, len: m };
+    if !room::settle(map, bufs, e, spots) {
         return Err(NotLaid::Outside);
     }
     room::note_areas(q, e, spots);

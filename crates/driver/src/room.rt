@@ -1,11 +1,12 @@
 // Is the memory the queue's, and is there room for what the caller wants?
-ghost use Rattle.std.specs.Prelude.{◌≡◌, true, [], ◌∷◌, ◌+◌, ◌*◌, ◌≤◌, ◌<◌, length};
+ghost use Rattle.std.specs.Prelude.{◌≡◌, [], ◌∷◌, ◌+◌, ◌*◌, ◌≤◌, ◌<◌, length};
 ghost use Rattle.model.specs.Ring.{size_max};
 ghost use Rattle.model.specs.Bytes.{put};
-ghost use Rattle.model.specs.Memory.{regions, sound};
+ghost use Rattle.model.specs.Memory.{regions};
 ghost use Rattle.driver.specs.Lay.{queue_in, ready, counts_ok, spot_of, in_memory, settled, area_words};
 
 use model::Queue;
+use regions::Map;
 
 // The three areas lie in a memory of m bytes. A test and no type: no function that a caller calls has a `requires` (docs/GUARANTEES.md).
 #[tactic(auto, using(model::proofs::Tests::tests, crate::proofs::Laws::sizes), unfolding(crate::specs::Lay::queue_in, model::specs::Sane::inside))]
@@ -58,27 +59,25 @@ pub fn counts_ok(q: usize, words: usize, reads: usize, spots: usize, nums: usize
     e <= nums
 }
 
-fn spot_of(map: &[usize], m: usize, addr: usize, len: usize) -> Option<usize>
-    requires { sound m (regions map.now) ≡ true }
-    ensures { result ≡ spot_of (regions map.now) addr len }
+fn spot_of(map: Map, addr: usize, len: usize) -> Option<usize>
+    ensures { result ≡ spot_of (regions map.entry.words.now) addr len }
 {
     if 4294967295 < len {
         return None;
     }
-    regions::locate(map, m, addr, len)
+    map.locate(addr, len)
 }
 
 // Where the e buffers lie in the slice; false at the first that isn't in memory.
-pub fn settle(map: &[usize], m: usize, bufs: &[usize], e: usize, spots: &mut [usize]) -> bool
-    requires map_value { sound m (regions map.now) ≡ true }
+pub fn settle(map: Map, bufs: &[usize], e: usize, spots: &mut [usize]) -> bool
     requires e_in_bounds { 2 * e ≤ length bufs.now }
     requires e_in_bounds_2 { 2 * e ≤ length spots.old }
-    ensures value { result ≡ in_memory (regions map.now) bufs.now e 0 }
-    ensures spots_after { spots.new ≡ settled (regions map.now) bufs.now e 0 spots.old }
+    ensures value { result ≡ in_memory (regions map.entry.words.now) bufs.now e 0 }
+    ensures spots_after { spots.new ≡ settled (regions map.entry.words.now) bufs.now e 0 spots.old }
 {
     for i in 0..e {
         let len = bufs[2 * i + 1];
-        let found = spot_of(map, m, bufs[2 * i], len);
+        let found = spot_of(map, bufs[2 * i], len);
         let Some(x) = found else {
             return false;
         };

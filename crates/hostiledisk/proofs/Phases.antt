@@ -7,7 +7,6 @@ use native.Mathlib.Omega.{arith}
 use lib.Dec.{leb, eqb}
 use lib.ListN.{get_or, length}
 use borrow.Author.Tests.{eqb-true, eqb-false, leb-true, le-ltb, le-leb, lt-leb}
-use Rattle.model.specs.Memory.{regions_max}
 use Rattle.model.specs.Ring.{size_max}
 use Rattle.model.specs.Pick.{pick, both}
 use Rattle.model.specs.Step.{step}
@@ -21,10 +20,10 @@ use Rattle.model.specs.declared.Phase.TheVariants.{Poll, Entry, Chain, Header, P
 use Rattle.model.proofs.Tests.{told, both-split}
 use Rattle.device.specs.Turn.{Fit, Met, cfg_of, state_of}
 use Rattle.words.specs.declared.Row.{Row}
-use Rattle.words.specs.Layout.{state_words, row, walk_of, job_of, phase_of, row_at, saved, walk_at, place_at, config_at, map_words, memory_ok, tags_ok, phase_ok, framed, level, level_word, mem_len_word, regions_word, sectors_word, backing_len_word, size_word, chain_len_word, taken_word, answered_word, tag_word, head_word, count_word, a_word, b_word, c_word, d_word, descs_word}
+use Rattle.words.specs.Layout.{state_words, row, walk_of, job_of, phase_of, row_at, saved, walk_at, place_at, config_at, map_words, memory_ok, tags_ok, phase_ok, framed, level, level_word, mem_len_word, sectors_word, backing_len_word, size_word, chain_len_word, taken_word, answered_word, tag_word, head_word, count_word, a_word, b_word, c_word, d_word, descs_word}
 use Rattle.words.proofs.Laws.{level-framed, framed-queue}
 use Rattle.hostiledisk.specs.Calls.{is_broken, long_enough, stepped, stepped_on, untouched, broken_code, hd_step, Framed, StepIs}
-use Rattle.hostiledisk.proofs.Laws.{memory-ok, fit_of, untouched-is}
+use Rattle.hostiledisk.proofs.Laws.{MemoryOk, memory-ok, fit_of, untouched-is}
 
 -- the phase's words, its number being this
 abbrev row_as : List ℕ → ℕ → Row
@@ -111,13 +110,13 @@ module _ (m : ℕ) (chain : List ℕ) {b : Bool} where
   unfolding ready
   ready-answer k job got e = e
 
--- the registered regions are few
-pub framed-few : (s : List ℕ) → framed s ≡ true → get_or s regions_word 0 ≤ regions_max
+-- the registered regions are few, and each one that set-up allows
+pub framed-memory : (s : List ℕ) → framed s ≡ true → MemoryOk s
 unfolding framed
-framed-few s e =
+framed-memory s e =
     let a = both-split (eqb (get_or s level_word 0) 3) _ e in
     let b = both-split (memory_ok s) _ a.1 in
-    (memory-ok s b.0).few
+    memory-ok s b.0
 
 -- the chain memory that a sane phase stands on
 pub chain-long : (s : List ℕ) (p : Phase) (mem backing chain stage : ℕ) → Held s p mem backing chain stage → (get_or s size_word 0 ≤ size_max) × (2 * get_or s size_word 0 ≤ chain)

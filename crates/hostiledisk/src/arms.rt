@@ -10,6 +10,7 @@ ghost use Rattle.hostiledisk.specs.Calls.{hd_step, Framed, StepIs};
 
 use device::Outcome;
 use model::Phase;
+use regions::Map;
 use words::{State, at};
 
 // A step that publishes nothing: the counters stay, and the answer goes by the phase. (The length as a clause: see words::save.)
@@ -77,16 +78,11 @@ pub fn descriptor(
     }
     let n = view.words[at::REGIONS];
     let end = at::MAP + 3 * n;
-    let x = device::descriptor(
-        view.queue(),
-        &view.words[at::MAP..end],
-        view.words[at::MEM_LEN],
-        k,
-        cur,
-        view.words[at::DESCS],
-        mem,
-        chain,
-    );
+    let map = Map {
+        words: &view.words[at::MAP..end],
+        len: view.words[at::MEM_LEN],
+    };
+    let x = device::descriptor(view.queue(), map, k, cur, view.words[at::DESCS], mem, chain);
     let p = x.phase;
     if let Phase::Chain(more, next) = p {
         words::save_chain(state, more, next);

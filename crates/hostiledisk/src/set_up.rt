@@ -9,6 +9,7 @@ ghost use Rattle.words.specs.Layout.{state_words, memory_ok, map_words};
 ghost use Rattle.hostiledisk.specs.Calls.{flag, memory_set, disk_set, queue_set, enabled_with};
 
 use model::{Phase, Queue, Refusal};
+use regions::Map;
 use words::{State, at};
 
 pub fn note_memory(state: &mut [usize], map: &[usize], m: usize)
@@ -58,14 +59,11 @@ pub fn areas(
 {
     let n = state.words[at::REGIONS];
     let end = at::MAP + 3 * n;
-    ring::areas(
-        &state.words[at::MAP..end],
-        state.words[at::MEM_LEN],
-        size,
-        desc,
-        avail,
-        used,
-    )
+    let map = Map {
+        words: &state.words[at::MAP..end],
+        len: state.words[at::MEM_LEN],
+    };
+    ring::areas(map, size, desc, avail, used)
 }
 
 fn note_queue(state: &mut [usize], q: Queue, chain: usize, stage: usize, start: usize)

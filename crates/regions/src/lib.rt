@@ -121,22 +121,32 @@ fn holds(g: usize, l: usize, a: usize, n: usize) -> bool
     true
 }
 
-// In the first region that contains all n bytes from address a, if there is one.
-// An offset is always in the slice, since the sum is one that `all_sound` bounds.
-pub fn locate(map: &[usize], m: usize, a: usize, n: usize) -> Option<usize>
-    requires { sound m (regions map.now) ≡ true }
-    ensures { result ≡ locate (regions map.now) a n }
-{
-    if n < 1 {
-        return None;
-    }
-    for i in 0..map.len() / 3 {
-        let g = map[3 * i];
-        if holds(g, map[3 * i + 1], a, n) {
-            return Some(map[3 * i + 2] + (a - g));
+// A map that set-up allows, over a slice of `len` bytes: a reader of its words needs no test of its own.
+#[derive(Clone, Copy)]
+pub struct Map<'a> {
+    pub words: &'a [usize],
+    pub len: usize,
+    pub ghost sound: { sound len (regions words.now) ≡ true },
+}
+
+impl Map<'_> {
+    // In the first region that contains all n bytes from address a, if there is one.
+    // An offset is always in the slice, since the sum is one that `all_sound` bounds.
+    pub fn locate(self, a: usize, n: usize) -> Option<usize>
+        ensures { result ≡ locate (regions self.entry.words.now) a n }
+    {
+        if n < 1 {
+            return None;
         }
+        let map = self.words;
+        for i in 0..map.len() / 3 {
+            let g = map[3 * i];
+            if holds(g, map[3 * i + 1], a, n) {
+                return Some(map[3 * i + 2] + (a - g));
+            }
+        }
+        None
     }
-    None
 }
 
 // The registered words, held in lent memory from `at` on.

@@ -1,13 +1,14 @@
 // The ring (01 §2, §3): where its three areas lie and what enabling refuses; idx and entry, used entry and used idx.
 #![tactic(auto)]
 
-ghost use Rattle.std.specs.Prelude.{◌≡◌, true, ◌++◌, ◌+◌, ◌*◌, ◌%◌, ◌≤◌, ◌<◌, length};
+ghost use Rattle.std.specs.Prelude.{◌≡◌, ◌++◌, ◌+◌, ◌*◌, ◌%◌, ◌≤◌, ◌<◌, length};
 ghost use Rattle.model.specs.Bytes.{put, word, bytes};
-ghost use Rattle.model.specs.Memory.{regions, sound};
+ghost use Rattle.model.specs.Memory.{regions};
 ghost use Rattle.model.specs.Ring.{queue_size_ok, aligned, entangled, placed, areas, pending, plus_one, polled, headed, size_max};
 ghost use Rattle.model.specs.Step.{used_at};
 
 use model::{Phase, Queue, Refusal, Walk};
+use regions::Map;
 
 // A power of two from 1 to 1,024 (DEV-13).
 #[tactic(auto, using(crate::proofs::Sizes::powers))]
@@ -61,16 +62,8 @@ fn placed(
 
 // What enabling a queue of size q at these guest addresses finds.
 #[tactic(auto, unfolding(model::specs::Ring::areas))]
-pub fn areas(
-    map: &[usize],
-    m: usize,
-    q: usize,
-    desc: usize,
-    avail: usize,
-    used: usize,
-) -> Result<Queue, Refusal>
-    requires { sound m (regions map.now) ≡ true }
-    ensures { result ≡ areas (regions map.now) q desc avail used }
+pub fn areas(map: Map, q: usize, desc: usize, avail: usize, used: usize) -> Result<Queue, Refusal>
+    ensures { result ≡ areas (regions map.entry.words.now) q desc avail used }
 {
     if !size_ok(q) {
         return Err(Refusal::QueueSize);
@@ -78,9 +71,9 @@ pub fn areas(
     if !aligned(desc, avail, used) {
         return Err(Refusal::Misaligned);
     }
-    let d = regions::locate(map, m, desc, 16 * q);
-    let a = regions::locate(map, m, avail, 6 + 2 * q);
-    let u = regions::locate(map, m, used, 6 + 8 * q);
+    let d = map.locate(desc, 16 * q);
+    let a = map.locate(avail, 6 + 2 * q);
+    let u = map.locate(used, 6 + 8 * q);
     let tangled = entangled(q, desc, avail, used);
     placed(q, d, a, u, tangled)
 }

@@ -1,13 +1,15 @@
 // Where a range of guest bytes lies in the slice.
+use regions::Map;
 use std::io;
 
 fn ask(rt: &impl Print, name: &str, map: &[usize], m: usize, a: usize, n: usize) -> io::Result<()> {
     print!(rt; "{name}: locate {a} + {n}: ")?;
-    // `locate` asks for a map whose regions are sound.
+    // A `Map` holds regions that are sound.
     if !regions::all_sound(m, map) {
         return println!(rt; "unsound");
     }
-    match regions::locate(map, m, a, n) {
+    let map = Map { words: map, len: m };
+    match map.locate(a, n) {
         Some(x) => println!(rt; "at {x}"),
         None => println!(rt; "nowhere"),
     }

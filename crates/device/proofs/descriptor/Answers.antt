@@ -1,9 +1,6 @@
 use native.Mathlib.Omega.{arith}
 use Rattle.device.proofs.descriptor.Goals as goal
 
-pub described-requires-clause-map_value : goal.described-requires-clause-map_value
-described-requires-clause-map_value c = c.requires.map_value
-
 pub described-requires-clause-q_le_size_max : goal.described-requires-clause-q_le_size_max
 described-requires-clause-q_le_size_max c = omega (arith, c.requires, c.fetch-d.ensures.len-fits)
 

@@ -11,8 +11,8 @@ pub returns-in_err-check_map : goal.returns-in_err-check_map
 unfolding attached
 returns-in_err-check_map c = let r = err_from_is_err_and c.from_residual.result c.from_residual.ensures.1 in rw (r.1, r.2, ← c.in_err-check_map.ensures, ne_eqb _ 0 (number-some c.in_err-check_map.field-0.0))
 
-pub areas-requires : goal.areas-requires
-areas-requires c = (mapped _ _ (sym c.in_ok-check_map.ensures)).each-sound
+pub invariant_of-map : goal.invariant_of-map
+invariant_of-map c = record { sound = (mapped _ _ (sym c.in_ok-check_map.ensures)).each-sound }
 
 pub returns-in_err-queue : goal.returns-in_err-queue
 unfolding attached attached_with

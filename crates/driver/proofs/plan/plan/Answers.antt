@@ -15,8 +15,11 @@ pub returns-then-not-counts_ok : goal.returns-then-not-counts_ok
 unfolding plan
 returns-then-not-counts_ok c = rw (← c.ready.ensures, c.if-not-ready.false, ← c.counts_ok.ensures, c.if-not-counts_ok.true) (record { answer-is = refl; spots-are = refl; nums-are = refl })
 
+pub invariant_of-map : goal.invariant_of-map
+invariant_of-map c = record { sound = (ready-ok _ _ _ _ (sym c.ready.ensures ∙ c.if-not-ready.false)).map-sound }
+
 pub settle-requires : goal.settle-requires
-settle-requires c = let r = ready-ok _ _ _ _ (sym c.ready.ensures ∙ c.if-not-ready.false) in let k = counts-ok _ _ _ _ _ (sym c.counts_ok.ensures ∙ c.if-not-counts_ok.false) in record { map_value = r.map-sound; e_in_bounds = omega (arith, k.even); e_in_bounds_2 = omega (arith, k.spots-long) }
+settle-requires c = let r = ready-ok _ _ _ _ (sym c.ready.ensures ∙ c.if-not-ready.false) in let k = counts-ok _ _ _ _ _ (sym c.counts_ok.ensures ∙ c.if-not-counts_ok.false) in record { e_in_bounds = omega (arith, k.even); e_in_bounds_2 = omega (arith, k.spots-long) }
 
 pub returns-then-not-settle : goal.returns-then-not-settle
 unfolding plan

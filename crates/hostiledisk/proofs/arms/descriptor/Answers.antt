@@ -10,21 +10,25 @@ use Rattle.model.proofs.Sane.{chain-ok}
 use Rattle.model.proofs.Chain.{chain-on}
 use Rattle.words.specs.Layout.{config_at, regions_word}
 use Rattle.device.proofs.Laws.{met-chain}
-use Rattle.hostiledisk.proofs.Phases.{held-chain, sane-chain, framed-few, fit-held, insane, acted}
+use Rattle.hostiledisk.proofs.Phases.{held-chain, sane-chain, framed-memory, fit-held, insane, acted}
 use Rattle.hostiledisk.proofs.arms.descriptor.Goals as goal
 
 pub overflow_mul-end : goal.overflow_mul-end
-overflow_mul-end c = omega (arith, framed-few _ c.requires.frame)
+overflow_mul-end c = omega (arith, (framed-memory _ c.requires.frame).few)
 
 pub overflow_add-end : goal.overflow_add-end
-overflow_add-end c = omega (arith, framed-few _ c.requires.frame)
+overflow_add-end c = omega (arith, (framed-memory _ c.requires.frame).few)
 
-pub slice_bounds-descriptor-end : goal.slice_bounds-descriptor-end
-slice_bounds-descriptor-end c = omega (arith, framed-few _ c.requires.frame, c.requires.words_long)
+pub slice_bounds-map-end : goal.slice_bounds-map-end
+slice_bounds-map-end c = omega (arith, (framed-memory _ c.requires.frame).few, c.requires.words_long)
+
+pub invariant_of-map : goal.invariant_of-map
+unfolding part
+invariant_of-map c = let n = get_or c.args.state.now regions_word 0 in let e = map-long n in rw e (record { sound = (framed-memory _ c.requires.frame).sound-map })
 
 pub descriptor-x-requires : goal.descriptor-x-requires
 unfolding part config_at ready
-descriptor-x-requires c = let n = get_or c.args.state.now regions_word 0 in let e = map-long n in let t = sym c.chain_sane.ensures ∙ c.if-not-chain_sane.false in let f = fit-held _ _ _ _ c.args.chain.now _ (held-chain _ _ _ _ _ c.requires _ c.walk-k.ensures) (sane-chain _ _ _ _ t) refl in let h = chain-ok _ _ _ _ t in rw (c.queue.ensures, e) (record { map_value = f.sound-map; size_le_size_max = omega (arith, h, f); size_in_bounds = omega (arith, h, f); size_in_bounds_2 = omega (arith, h, f); cur_lt_size = omega (arith, h, f); count_le_size = omega (arith, h, f); reads_le_count = omega (arith, h, f); r_bound = omega (arith, h, f); w_bound = omega (arith, h, f) })
+descriptor-x-requires c = let t = sym c.chain_sane.ensures ∙ c.if-not-chain_sane.false in let f = fit-held _ _ _ _ c.args.chain.now _ (held-chain _ _ _ _ _ c.requires _ c.walk-k.ensures) (sane-chain _ _ _ _ t) refl in let h = chain-ok _ _ _ _ t in rw c.queue.ensures (record { size_le_size_max = omega (arith, h, f); size_in_bounds = omega (arith, h, f); size_in_bounds_2 = omega (arith, h, f); cur_lt_size = omega (arith, h, f); count_le_size = omega (arith, h, f); reads_le_count = omega (arith, h, f); r_bound = omega (arith, h, f); w_bound = omega (arith, h, f) })
 
 pub save_chain-requires : goal.save_chain-requires
 save_chain-requires c = c.requires.words_long

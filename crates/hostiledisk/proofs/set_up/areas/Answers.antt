@@ -12,12 +12,12 @@ overflow_mul-end c = omega (arith, (memory-ok _ c.requires).few)
 pub overflow_add-end : goal.overflow_add-end
 overflow_add-end c = omega (arith, (memory-ok _ c.requires).few)
 
-pub slice_bounds-areas-end : goal.slice_bounds-areas-end
-slice_bounds-areas-end c = omega (arith, (memory-ok _ c.requires).few, c.args.state.long)
+pub slice_bounds-map-end : goal.slice_bounds-map-end
+slice_bounds-map-end c = omega (arith, (memory-ok _ c.requires).few, c.args.state.long)
 
-pub areas-requires : goal.areas-requires
+pub invariant_of-map : goal.invariant_of-map
 unfolding part
-areas-requires c = let n = get_or c.args.state.words.now regions_word 0 in let e = map-long n in rw e (memory-ok _ c.requires).sound-map
+invariant_of-map c = let n = get_or c.args.state.words.now regions_word 0 in let e = map-long n in rw e (record { sound = (memory-ok _ c.requires).sound-map })
 
 pub returns : goal.returns
 unfolding part

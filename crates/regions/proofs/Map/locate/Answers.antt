@@ -2,7 +2,7 @@ use mathlib.Core.Path.{sym, ◌∙◌}
 use native.Mathlib.Omega.{arith}
 use Rattle.model.specs.Memory.{region}
 use Rattle.model.proofs.Memory.{locate-hit, locate-miss, locate-none, locate-empty, sound-turn, region-sound, contains-within}
-use Rattle.regions.proofs.locate.Goals as goal
+use Rattle.regions.proofs.Map.locate.Goals as goal
 
 pub returns-then-n-lt1 : goal.returns-then-n-lt1
 returns-then-n-lt1 c = sym (locate-empty _ _ _ c.if-n-lt1.true)
