@@ -128,15 +128,16 @@ countable-ok d m own idx t =
     (omega told, omega told, omega told)
 
 -- an answer that is taken names a descriptor of the queue
-pub record Named (d : Driver) (own : List ℕ) (head : ℕ) : Type 0 where
-  pub head_in : head < d.queue.size
+pub record Named (d : Driver) (own : List ℕ) (a : Answer) : Type 0 where
+  pub queue-is : a.driver.queue.size ≡ d.queue.size
+  pub head_in : a.head < d.queue.size
   pub own-long : d.queue.size ≤ length own
   pub small : d.queue.size ≤ size_max
 
-pub judged-answer : (d : Driver) (m : ℕ) (own : List ℕ) (idx id len : ℕ) (a : Answer) → judged d m own idx id len ≡ Ok (Some a) → Named d own a.head
+pub judged-answer : (d : Driver) (m : ℕ) (own : List ℕ) (idx id len : ℕ) (a : Answer) → judged d m own idx id len ≡ Ok (Some a) → Named d own a
 unfolding judged outstanding countable
 judged-answer d m own idx id len a =
-    let P : Result (Option Answer) Strange → Type 0 = λ t. t ≡ Ok (Some a) → Named d own a.head in
+    let P : Result (Option Answer) Strange → Type 0 = λ t. t ≡ Ok (Some a) → Named d own a in
     on P (countable d m (length own) idx)
     (λ k. on P (eqb (pending idx d.seen) 0) (λ b e. absurd (cc))
     (λ b. on P (ltb d.queue.size (pending idx d.seen)) (λ c e. absurd (cc))
@@ -147,7 +148,7 @@ judged-answer d m own idx id len a =
     let s = queue-ok d.queue m q.0 in
     let g : record { driver = record { queue = d.queue; next = d.next; seen = plus_one d.seen }; head = id; len = len } ≡ a = cc in
     let h : id ≡ a.head = ap (λ (x : Answer). x.head) g in
-    record { head_in = omega (arith, ltb-true id d.queue.size (both-split (ltb id d.queue.size) _ o).0); own-long = p.0; small = s.small })
+    record { queue-is = ap (λ (x : Answer). x.driver.queue.size) (sym g); head_in = omega (arith, ltb-true id d.queue.size (both-split (ltb id d.queue.size) _ o).0); own-long = p.0; small = s.small })
     (λ o e. absurd (cc)))))
     (λ k e. absurd (cc))
 

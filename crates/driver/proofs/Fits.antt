@@ -1,4 +1,4 @@
--- Where laying answers 0, all that the record LayFit says holds of the request, its spots and its numbers.
+-- Where laying refuses nothing, all that the record LayFit says holds of the request, its spots and its numbers.
 use Prim.Native.Nat.{ℕ, zero, suc, ◌+◌, ◌-◌, ◌*◌, ◌/◌, ◌%◌, ◌≤◌, ◌<◌}
 use Rattle.model.specs.Ring.{plus_one}
 use mathlib.Core.Bool.{Bool, true, false}

@@ -29,7 +29,7 @@ pub record FormOk (kind r w : ℕ) : Type 0 where
 pub formed-ok : (kind r w : ℕ) → formed kind r w ≡ true → FormOk kind r w
 unfolding formed
 formed-ok kind r w h =
-    let d : Disk = record { start = 0; sectors = 2 ^ 32; ro = false } in
+    let d : Disk = record { start = 0; sectors = 2 ^ 32; ro = 0 } in
     let p = both-split (leb 1 w) (eqb (status (verdict d kind 0 r w)) 0) h in
     let a = accepted-ok d kind 0 r w (verdict d kind 0 r w) (served-accepted d kind 0 r w (eqb-true (status (verdict d kind 0 r w)) 0 p.1)) in
     record { header-in = a.0; message-short = a.1; status-in = leb-true 1 w p.0; short = a.2; known = a.3 }

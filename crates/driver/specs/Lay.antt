@@ -118,7 +118,7 @@ separate (s ∷ ss) = pick (clear_of s ss) (separate ss) false
 -- 03 §3: there is a writable byte for the status, and some disk accepts a request of this type with r readable and w writable bytes: the largest
 -- one, at sector 0
 unfoldable pub formed : ℕ → ℕ → ℕ → Bool
-formed kind r w = both (leb 1 w) (eqb (status (verdict (record { start = 0; sectors = 2 ^ 32; ro = false }) kind 0 r w)) 0)
+formed kind r w = both (leb 1 w) (eqb (status (verdict (record { start = 0; sectors = 2 ^ 32; ro = 0 }) kind 0 r w)) 0)
 
 -- bytes of some buffers; 2,097,153 stands for all that is more than any request may have
 abbrev pub most : ℕ

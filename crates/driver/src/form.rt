@@ -33,7 +33,7 @@ pub fn formed(kind: usize, r: usize, w: usize) -> bool
     let largest = Disk {
         start: 0,
         sectors: 4294967296,
-        ro: false,
+        ro: 0,
     };
     request::status(request::verdict(largest, kind, 0, r, w)) == 0
 }

@@ -1,5 +1,5 @@
 // The driver's half (03 §7): lays requests into guest memory and reads their answers. For tests, and for guests that we write ourselves.
-// No public function has a `requires`: what does not fit is refused with a code, and nothing is written to guest memory.
+// No public function has a `requires`: what does not fit is refused, and nothing is written to guest memory.
 //
 // The caller lends, beside guest memory and its map (as for hd_memory):
 //   own    a word for each descriptor, 0 at the beginning: 0, or 1 + the head of the request that has it

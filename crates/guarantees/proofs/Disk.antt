@@ -13,7 +13,7 @@ use Rattle.model.proofs.Lists.{Disjoint, part-put, part-put-in, part-put-other, 
 use Rattle.model.proofs.Step.{apply-append}
 use Rattle.model.proofs.Tests.{on}
 use borrow.Author.Tests.{ltb-false, eqb-true}
-use Rattle.guarantees.proofs.Open.{writable-word, locked}
+use Rattle.guarantees.proofs.Open.{locked}
 use Rattle.guarantees.proofs.Reached.{Kept}
 use Rattle.words.specs.Layout.{state_words, row_at, phase_of, config_at, level, mem_len_word, start_word, sectors_word, ro_word}
 use Rattle.hostiledisk.specs.Calls.{Called, stepped, stepped_on, hd_step, is_broken, long_enough}
@@ -97,7 +97,7 @@ read_back at a k bs xs m h l s =
 
 -- on a read-only disk that set-up and steps made, no call writes to the disk
 pub read_only : (w : World) (c : Call) → Kept w → (get_or w.state ro_word 0 ≡ 0 → ⊥) → written w c ≡ []
-unfolding written config_at
+unfolding written
 read_only w (memory words m) k n = refl
 read_only w (disk start sectors ro id backing) k n = refl
 read_only w (enable size desc avail used chain stage start) k n = refl
@@ -109,7 +109,7 @@ read_only w (step_over mem) k n =
     (λ b. on P (is_broken (phase_of (row_at w.state))) (λ c. refl)
     (λ c. on P (long_enough w.state (length mem) (length w.backing) (length w.chain) (length w.stage))
     (λ d. on P (ready (get_or w.state mem_len_word 0) w.chain (phase_of (row_at w.state)))
-    (λ e. locked (config_at w.state).disk.ro w.chain w.stage (part (wanted w.state w.chain).at (wanted w.state w.chain).len mem) (phase_of (row_at w.state)) (λ o. n (writable-word (get_or w.state ro_word 0) o))
+    (λ e. locked (get_or w.state ro_word 0) w.chain w.stage (part (wanted w.state w.chain).at (wanted w.state w.chain).len mem) (phase_of (row_at w.state)) n
     (k (ltb-false (length w.state) state_words a) (eqb-true (level w.state) 3 b)).open-disk)
     (λ e. refl))
     (λ d. refl)))

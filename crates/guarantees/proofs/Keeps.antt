@@ -241,9 +241,9 @@ keeps-decided rs q d chain k p type sector g u v x =
     (λ e. on P (eqb type 0)
     (λ e. on P (both (eqb k.r 16) (fits (k.w - 1) sector d.sectors)) (λ f. (g, u, v, both_r (eqb k.r 16) (fits (k.w - 1) sector d.sectors) f)) (λ f. (g, u, v, refl)))
     (λ e. on P (eqb type 1)
-    (λ e. on P (both (eqb k.w 1) (both (fits (k.r - 16) sector d.sectors) (not d.ro)))
-    (λ f. let a = both_r (eqb k.w 1) (both (fits (k.r - 16) sector d.sectors) (not d.ro)) f in
-    let b = both_l (fits (k.r - 16) sector d.sectors) (not d.ro) a in
+    (λ e. on P (both (eqb k.w 1) (both (fits (k.r - 16) sector d.sectors) (eqb d.ro 0)))
+    (λ f. let a = both_r (eqb k.w 1) (both (fits (k.r - 16) sector d.sectors) (eqb d.ro 0)) f in
+    let b = both_l (fits (k.r - 16) sector d.sectors) (eqb d.ro 0) a in
     on (Good rs q d.sectors chain) (ltb 16 k.r) (λ e. let l : 16 < k.r = ltb-true 16 k.r e in (g, u, l, omega arith, b, x l)) (λ e. (g, u, v, refl)))
     (λ f. (g, u, v, refl)))
     (λ e. on P (eqb type 4) (λ e. on P (both (eqb k.r 16) (eqb k.w 1)) (λ f. (g, u, v, refl)) (λ f. (g, u, v, refl)))

@@ -1,9 +1,7 @@
 -- A payload is fetched only for a disk that is not read-only, so nothing else is ever stored.
 use Prim.Native.Nat.{ℕ, ◌+◌, ◌-◌}
-use mathlib.Core.Bool.{Bool, true, false}
 use mathlib.Core.List.{List, []}
 use mathlib.Core.Path.{◌≡◌, refl}
-use Rattle.std.specs.Prelude.{not}
 use lib.Dec.{leb, ltb, eqb}
 use borrow.Author.Tests.{eqb-true}
 use Rattle.model.specs.Pick.{both}
@@ -12,7 +10,7 @@ use Rattle.model.specs.Ring.{polled, headed, pending}
 use Rattle.model.specs.Chain.{desc_at, tested, tally, complete, described}
 use Rattle.model.specs.Request.{fits, in_ok, out_ok, exactly, verdict, decided}
 use Rattle.model.specs.Step.{Cfg, left, lacks, ends, onward, gathered, paid, next, effect, disk_stores}
-use Rattle.model.proofs.Tests.{on, both_r, not-true}
+use Rattle.model.proofs.Tests.{on, both_r}
 use Rattle.guarantees.specs.Good.{Open}
 use Rattle.model.specs.declared.Desc.{Desc}
 use Rattle.model.specs.declared.Tested.{Tested}
@@ -24,11 +22,11 @@ use Rattle.model.specs.declared.Job.{Job}
 use Rattle.model.specs.declared.Phase.{Phase}
 use Rattle.model.specs.declared.Phase.TheVariants.{Poll, Entry, Chain, Header, Payload, Answer, Publish, Broken}
 
-open-complete : (ro : Bool) (k : Walk) (cur : ℕ) → Open ro (complete k cur)
+open-complete : (ro : ℕ) (k : Walk) (cur : ℕ) → Open ro (complete k cur)
 unfolding complete Open
 open-complete ro k cur = on (Open ro) (leb k.count k.reads) (λ e. tt) (λ e. on (Open ro) (ltb k.r 16) (λ f. tt) (λ f. tt))
 
-open-chain : (ro : Bool) (k : Walk) (cur : ℕ) (d : Desc) (t : Tested) → Open ro (described k cur d t)
+open-chain : (ro : ℕ) (k : Walk) (cur : ℕ) (d : Desc) (t : Tested) → Open ro (described k cur d t)
 unfolding described Open
 open-chain ro k cur d (Bad n) = tt
 open-chain ro k cur d (Next x) = tt
@@ -41,9 +39,9 @@ open-decided d k p type sector =
     on P (ltb k.r 16) (λ e. tt)
     (λ e. on P (eqb type 0) (λ e. on P (both (eqb k.r 16) (fits (k.w - 1) sector d.sectors)) (λ f. tt) (λ f. tt))
     (λ e. on P (eqb type 1)
-    (λ e. on P (both (eqb k.w 1) (both (fits (k.r - 16) sector d.sectors) (not d.ro)))
-    (λ f. let a = both_r (eqb k.w 1) (both (fits (k.r - 16) sector d.sectors) (not d.ro)) f in
-    let b = not-true d.ro (both_r (fits (k.r - 16) sector d.sectors) (not d.ro) a) in
+    (λ e. on P (both (eqb k.w 1) (both (fits (k.r - 16) sector d.sectors) (eqb d.ro 0)))
+    (λ f. let a = both_r (eqb k.w 1) (both (fits (k.r - 16) sector d.sectors) (eqb d.ro 0)) f in
+    let b : d.ro ≡ 0 = eqb-true d.ro 0 (both_r (fits (k.r - 16) sector d.sectors) (eqb d.ro 0) a) in
     on (Open d.ro) (ltb 16 k.r) (λ e. b) (λ e. tt))
     (λ f. tt))
     (λ e. on P (eqb type 4) (λ e. on P (both (eqb k.r 16) (eqb k.w 1)) (λ f. tt) (λ f. tt))
@@ -64,16 +62,8 @@ keeps-open c t chain stage (Answer k job got) f o = tt
 keeps-open c t chain stage (Publish k got) f o = tt
 keeps-open c t chain stage (Broken reason head count at) f o = tt
 
--- the word that says that a disk can be written
-pub writable-word : (n : ℕ) → not (eqb n 0) ≡ false → n ≡ 0
-writable-word n e = eqb-true n 0 (go (eqb n 0) e)
-  where
-    go : (b : Bool) → not b ≡ false → b ≡ true
-    go true h = refl
-    go false h = let z : ◌≡◌ {A = Bool} true false = cc in cc
-
 -- on a read-only disk no step stores
-pub locked : (ro : Bool) (chain stage f : List ℕ) (p : Phase) → (ro ≡ false → ⊥) → Open ro p → disk_stores (effect chain stage p f) ≡ []
+pub locked : (ro : ℕ) (chain stage f : List ℕ) (p : Phase) → (ro ≡ 0 → ⊥) → Open ro p → disk_stores (effect chain stage p f) ≡ []
 unfolding Open effect disk_stores
 locked ro chain stage f Poll n o = refl
 locked ro chain stage f Entry n o = refl

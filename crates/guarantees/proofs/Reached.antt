@@ -46,8 +46,7 @@ map-saved s t a n p = rw (others-saved s t a n p regions_word (below (omega arit
 
 -- a step of the words that were made
 made-saved : (s : List ℕ) (t a n : ℕ) (p : Phase) (chain chain₂ : List ℕ) → state_words ≤ length s → Made s chain
-    → Good (regions (map_words s)) (get_or s size_word 0) (get_or s sectors_word 0) chain₂ p → Open (config_at s).disk.ro p → Made (saved s t a n p) chain₂
-unfolding config_at
+    → Good (regions (map_words s)) (get_or s size_word 0) (get_or s sectors_word 0) chain₂ p → Open (get_or s ro_word 0) p → Made (saved s t a n p) chain₂
 made-saved s t a n p chain chain₂ l m g o =
     let w : (i : ℕ) → i < taken_word → get_or (saved s t a n p) i 0 ≡ get_or s i 0 = λ i u. others-saved s t a n p i (below u) in
     record {

@@ -1,7 +1,7 @@
 -- The states that set-up and steps make: what is true of the request at hand, beyond what each call tests.
-use Rattle.std.specs.Prelude.{ℕ, zero, suc, ◌+◌, ◌-◌, ◌*◌, ◌≤◌, ◌<◌, Bool, true, false, List, ◌≡◌, get_or}
+use Rattle.std.specs.Prelude.{ℕ, zero, suc, ◌+◌, ◌-◌, ◌*◌, ◌≤◌, ◌<◌, true, List, ◌≡◌, get_or}
 use Rattle.model.specs.Memory.{Region, regions}
-use Rattle.words.specs.Layout.{map_words, phase_of, row_at, config_at, sectors_word, size_word, desc_area_word, avail_area_word, used_area_word}
+use Rattle.words.specs.Layout.{map_words, phase_of, row_at, sectors_word, ro_word, size_word, desc_area_word, avail_area_word, used_area_word}
 use Rattle.model.specs.Request.{fits}
 use Rattle.model.specs.Sane.{job_ok, refused_at}
 use Rattle.model.proofs.Memory.{InOne}
@@ -48,12 +48,12 @@ Good rs q sectors chain (Publish k got) = WalkGood rs q chain k × (k.reads < k.
 Good rs q sectors chain (Broken reason head count at) = (1 ≤ reason) × (reason ≤ 8) × (head < q) × (count ≤ q + 1) × (refused_at q count at ≡ true)
 
 -- a payload is fetched for a disk that is not read-only
-unfoldable pub Open : Bool → Phase → Type 0
+unfoldable pub Open : ℕ → Phase → Type 0
 Open ro Poll = Unit {0}
 Open ro Entry = Unit {0}
 Open ro (Chain k cur) = Unit {0}
 Open ro (Header k p got) = Unit {0}
-Open ro (Payload k p s got) = ro ≡ false
+Open ro (Payload k p s got) = ro ≡ 0
 Open ro (Answer k job got) = Unit {0}
 Open ro (Publish k got) = Unit {0}
 Open ro (Broken reason head count at) = Unit {0}
@@ -69,4 +69,4 @@ pub record Made (s chain : List ℕ) : Type 0 where
   pub avail-area : Area (regions (map_words s)) (get_or s avail_area_word 0) (6 + 2 * get_or s size_word 0)
   pub used-area : Area (regions (map_words s)) (get_or s used_area_word 0) (6 + 8 * get_or s size_word 0)
   pub good : Good (regions (map_words s)) (get_or s size_word 0) (get_or s sectors_word 0) chain (phase_of (row_at s))
-  pub open-disk : Open (config_at s).disk.ro (phase_of (row_at s))
+  pub open-disk : Open (get_or s ro_word 0) (phase_of (row_at s))

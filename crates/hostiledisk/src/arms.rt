@@ -13,7 +13,7 @@ use model::Phase;
 use regions::Map;
 use words::{State, at};
 
-// A step that publishes nothing: the counters stay, and the answer goes by the phase. (The length as a clause: see words::save.)
+// A step that publishes nothing: the counters stay, and the answer goes by the phase. (The length as a clause: see words::save_row.)
 fn finish(state: &mut [usize], p: Phase) -> Outcome
     requires { state_words ≤ length state.old }
     ensures value { number result ≡ code_after p }

@@ -1,4 +1,4 @@
-// What set-up writes into the lent words, once nothing is left to refuse. The length stands in the clauses here as in words::save,
+// What set-up writes into the lent words, once nothing is left to refuse. The length stands in the clauses here as in words::save_row,
 // and for the reason given there.
 ghost use Rattle.std.specs.Prelude.{◌≡◌, true, ◌∷◌, ◌+◌, ◌*◌, ◌/◌, ◌≤◌, length};
 ghost use Rattle.model.specs.Bytes.{put};

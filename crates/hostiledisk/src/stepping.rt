@@ -8,7 +8,7 @@ use crate::{STATE_WORDS, arms};
 use device::Outcome;
 use words::{State, at};
 
-// A queue that steps have broken answers so, and stays as it is.
+// A queue that steps have broken answers Broken, and stays as it is.
 #[tactic(auto, using(model::proofs::Tests::tests), unfolding(crate::specs::Calls::broken_code))]
 fn broken(state: State) -> Outcome
     ensures { number result ≡ broken_code state.entry.words.now }

@@ -4,7 +4,6 @@ use mathlib.Core.Path.{◌≡◌, refl}
 use Prim.Native.Nat.{ℕ, ◌<◌}
 use native.Mathlib.Omega.{arith}
 use borrow.Author.Tests.{ltb-true, ltb-false, leb-true, leb-false, eqb-true, eqb-false, lt-ltb, le-ltb, le-leb, lt-leb, eq-eqb, ne_eqb}
-use Rattle.std.specs.Prelude.{not}
 use Rattle.model.specs.Pick.{pick, both}
 
 -- for `search`: the value of each test from what the code's own tests say
@@ -30,10 +29,6 @@ both_r false b e = let z : ◌≡◌ {A = Bool} true false = cc in cc
 pub passed : (b : Bool) (x : ℕ) {y : ℕ} → pick b x y ≡ 0 → 0 < x → (b ≡ false) × (y ≡ 0)
 passed true x e h = absurd (omega arith)
 passed false x e h = (refl, e)
-
-pub not-true : (b : Bool) → not b ≡ true → b ≡ false
-not-true false e = refl
-not-true true e = let z : ◌≡◌ {A = Bool} true false = cc in cc
 
 pub both-split : (a b : Bool) → both a b ≡ true → (a ≡ true) × (b ≡ true)
 both-split a b e = (both_l a b e, both_r a b e)

@@ -1,5 +1,5 @@
 -- The request (03): what set-up refuses of a disk, the table of 03 §3, status and length.
-use Rattle.std.specs.Prelude.{ℕ, ◌+◌, ◌-◌, ◌*◌, ◌/◌, ◌%◌, ◌^◌, Bool, not, leb, ltb, eqb}
+use Rattle.std.specs.Prelude.{ℕ, ◌+◌, ◌-◌, ◌*◌, ◌/◌, ◌%◌, ◌^◌, Bool, leb, ltb, eqb}
 use Rattle.model.specs.Pick.{pick, both}
 use Rattle.model.specs.declared.Disk.{Disk}
 use Rattle.model.specs.declared.Walk.{Walk}
@@ -23,7 +23,7 @@ unfoldable pub in_ok : Disk → ℕ → ℕ → ℕ → Bool
 in_ok d sector r w = both (eqb r 16) (fits (w - 1) sector d.sectors)
 
 unfoldable pub out_ok : Disk → ℕ → ℕ → ℕ → Bool
-out_ok d sector r w = both (eqb w 1) (both (fits (r - 16) sector d.sectors) (not d.ro))
+out_ok d sector r w = both (eqb w 1) (both (fits (r - 16) sector d.sectors) (eqb d.ro 0))
 
 -- FLUSH: r = 16, w = 1. GET_ID: r = 16, w = 21.
 unfoldable pub exactly : ℕ → ℕ → ℕ → Job → Job

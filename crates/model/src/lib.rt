@@ -1,4 +1,4 @@
-// The types that the definitions and the code share. They hold what documents 01 and 03 name, and nothing else.
+// The types that the definitions and the code share, and how a buffer of the chain is read.
 #![tactic(auto)]
 
 ghost use Rattle.std.specs.Prelude.{◌≡◌, ◌+◌, ◌*◌, ◌^◌, ◌≤◌, ◌<◌, length, get_or};
@@ -114,12 +114,13 @@ pub fn left(chain: &[usize], p: Place) -> Span
     }
 }
 
-// 03 §1: a disk's first byte in the backing slice, its sectors, and whether it is read-only.
+// 03 §1: a disk's first byte in the backing slice, its sectors, and 0 unless it is read-only. The flag is a number:
+// a word of the state may hold any, and `request::verdict` takes any.
 #[derive(Clone, Copy)]
 pub struct Disk {
     pub start: usize,
     pub sectors: usize,
-    pub ro: bool,
+    pub ro: usize,
 }
 
 // 03 §1: the 20 identity bytes as numbers, lowest byte first: the first eight, the next eight, the last four.

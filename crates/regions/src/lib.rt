@@ -91,7 +91,7 @@ fn sound_one(m: usize, g: usize, l: usize, o: usize) -> bool
 }
 
 // Is each region by itself one that set-up allows? What later calls test again of words that anybody may have spoilt.
-// This loop and the next one run in every step, and count regions: one number, where the words' places would be three.
+// This loop runs in every step, and that of `locate` in each S3. They count regions: one number, where the words' places would be three.
 pub fn all_sound(m: usize, map: &[usize]) -> bool
     ensures { result ≡ sound m (regions map.now) }
 {

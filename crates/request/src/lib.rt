@@ -9,7 +9,7 @@ use model::{Disk, Job, Phase, Place, Walk};
 
 // 03 §3: the types of request that a device knows. The header's number is the guest's, and may be any.
 #[derive(Clone, Copy)]
-pub enum Kind {
+enum Kind {
     In,
     Out,
     Flush,
@@ -17,7 +17,7 @@ pub enum Kind {
 }
 
 #[derive(Clone, Copy)]
-pub struct UnknownKind;
+struct UnknownKind;
 
 impl TryFrom<usize> for Kind {
     type Error = UnknownKind;
@@ -53,7 +53,7 @@ fn out_ok(d: Disk, sector: usize, r: usize, w: usize) -> bool
     requires { 16 ≤ r }
     ensures { result ≡ out_ok d sector r w }
 {
-    w == 1 && fits(r - 16, sector, d.sectors) && !d.ro
+    w == 1 && fits(r - 16, sector, d.sectors) && d.ro == 0
 }
 
 // FLUSH and GET_ID: a request of exactly this form.

@@ -63,7 +63,7 @@ write-only false false x false y false u false v s s₂ e = let z : ◌≡◌ {A
 write-short : (d : Disk) (type sector r w s : ℕ) → verdict d type sector r w ≡ Write s → r - 16 ≤ 1048576
 unfolding verdict exactly out_ok
 write-short d type sector r w s e =
-    let k = write-only (ltb r 16) (eqb type 0) (in_ok d sector r w) (eqb type 1) (both (eqb w 1) (both (fits (r - 16) sector d.sectors) (not d.ro))) (eqb type 4) (both (eqb r 16) (eqb w 1)) (eqb type 8) (both (eqb r 16) (eqb w 21)) sector s e in
+    let k = write-only (ltb r 16) (eqb type 0) (in_ok d sector r w) (eqb type 1) (both (eqb w 1) (both (fits (r - 16) sector d.sectors) (eqb d.ro 0))) (eqb type 4) (both (eqb r 16) (eqb w 1)) (eqb type 8) (both (eqb r 16) (eqb w 21)) sector s e in
     let f = (both-split (fits (r - 16) sector d.sectors) _ (both-split (eqb w 1) _ k.0).1).0 in
     (fits-ok (r - 16) sector d.sectors f).short
 

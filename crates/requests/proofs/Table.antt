@@ -3,7 +3,6 @@ use Prim.Native.Nat.{ℕ, ◌-◌, ◌/◌, ◌%◌}
 use native.Mathlib.Omega.{arith}
 use mathlib.Core.Bool.{true}
 use mathlib.Core.Path.{◌≡◌, refl}
-use Rattle.std.specs.Prelude.{not}
 use lib.Dec.{leb, ltb, eqb}
 use borrow.Author.Tests.{ltb-false, eqb-true, eqb-false, le-ltb, le-leb, eq-eqb, ne_eqb}
 use Rattle.model.specs.Pick.{both}
@@ -11,7 +10,7 @@ use Rattle.model.specs.Request.{fits, in_ok, out_ok, exactly, verdict, status}
 use Rattle.model.specs.declared.Disk.{Disk}
 use Rattle.model.specs.declared.Job.{Job}
 use Rattle.model.specs.declared.Job.TheVariants.{Unsupported}
-use Rattle.model.proofs.Tests.{told, on, both-split, not-true}
+use Rattle.model.proofs.Tests.{told, on, both-split}
 use Rattle.requests.specs.Table.{Fit, Accepted, reads, writes, flushes, tells, Other}
 
 fit-true : (n sector c : ℕ) → fits n sector c ≡ true → Fit n sector c
@@ -33,7 +32,7 @@ unfolding verdict in_ok out_ok exactly status
 accepted-served d type sector r w job (reads t l f) =
     (rw (le-ltb r 16 (omega arith), eq-eqb type 0 t, eq-eqb r 16 l, true-fit (w - 1) sector d.sectors f), refl)
 accepted-served d type sector r w job (writes t l o f n) =
-    (rw (le-ltb r 16 l, ne_eqb type 0 (λ z. omega arith), eq-eqb type 1 t, eq-eqb w 1 o, true-fit (r - 16) sector d.sectors f, n), refl)
+    (rw (le-ltb r 16 l, ne_eqb type 0 (λ z. omega arith), eq-eqb type 1 t, eq-eqb w 1 o, true-fit (r - 16) sector d.sectors f, eq-eqb d.ro 0 n), refl)
 accepted-served d type sector r w job (flushes t l o) =
     (rw (le-ltb r 16 (omega arith), ne_eqb type 0 (λ z. omega arith), ne_eqb type 1 (λ z. omega arith), eq-eqb type 4 t, eq-eqb r 16 l, eq-eqb w 1 o), refl)
 accepted-served d type sector r w job (tells t l o) =
@@ -51,10 +50,10 @@ served-accepted d type sector r w =
     reads (eqb-true type 0 t) (eqb-true r 16 k.0) (fit-true (w - 1) sector d.sectors k.1))
     (λ e h. absurd (omega arith)))
     (λ t₀. on P (eqb type 1)
-    (λ t. on P (both (eqb w 1) (both (fits (r - 16) sector d.sectors) (not d.ro)))
+    (λ t. on P (both (eqb w 1) (both (fits (r - 16) sector d.sectors) (eqb d.ro 0)))
     (λ e h. let k = both-split (eqb w 1) _ e in
     let l = both-split (fits (r - 16) sector d.sectors) _ k.1 in
-    writes (eqb-true type 1 t) (ltb-false r 16 a) (eqb-true w 1 k.0) (fit-true (r - 16) sector d.sectors l.0) (not-true d.ro l.1))
+    writes (eqb-true type 1 t) (ltb-false r 16 a) (eqb-true w 1 k.0) (fit-true (r - 16) sector d.sectors l.0) (eqb-true d.ro 0 l.1))
     (λ e h. absurd (omega arith)))
     (λ t₁. on P (eqb type 4)
     (λ t. on P (both (eqb r 16) (eqb w 1))
@@ -79,7 +78,7 @@ unsupported-other d type sector r w =
     on P (ltb r 16) (λ a h. absurd (omega arith))
     (λ a. on P (eqb type 0) (λ t. on P (both (eqb r 16) (fits (w - 1) sector d.sectors)) (λ e h. absurd (omega arith)) (λ e h. absurd (omega arith)))
     (λ t₀. on P (eqb type 1)
-    (λ t. on P (both (eqb w 1) (both (fits (r - 16) sector d.sectors) (not d.ro))) (λ e h. absurd (omega arith)) (λ e h. absurd (omega arith)))
+    (λ t. on P (both (eqb w 1) (both (fits (r - 16) sector d.sectors) (eqb d.ro 0))) (λ e h. absurd (omega arith)) (λ e h. absurd (omega arith)))
     (λ t₁. on P (eqb type 4) (λ t. on P (both (eqb r 16) (eqb w 1)) (λ e h. absurd (omega arith)) (λ e h. absurd (omega arith)))
     (λ t₄. on P (eqb type 8) (λ t. on P (both (eqb r 16) (eqb w 21)) (λ e h. absurd (omega arith)) (λ e h. absurd (omega arith)))
     (λ t₈ h.

@@ -237,7 +237,7 @@ read-form d type sector r w job (flushes t l o) e = absurd (omega arith)
 read-form d type sector r w job (tells t l o) e = absurd (omega arith)
 
 abbrev largest : Disk
-largest = record { start = 0; sectors = 2 ^ 32; ro = false }
+largest = record { start = 0; sectors = 2 ^ 32; ro = 0 }
 
 form-accepted : (kind r w : ℕ) → formed kind r w ≡ true → Accepted largest kind 0 r w (verdict largest kind 0 r w)
 unfolding formed

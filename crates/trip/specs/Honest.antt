@@ -28,7 +28,7 @@ pub record Honest (state mem backing chain stage : List ℕ) (n : ℕ) (d : Driv
   -- the driver's own words are in order (all 0, or as laying and reading answers leave them)
   pub own-named : Named d.queue.size own
   -- the disk can be written, and the data are whole sectors of it
-  pub writable : (device_of state).disk.ro ≡ false
+  pub writable : (device_of state).disk.ro ≡ 0
   pub sectors-fit : Fit (length message - 16) sector (device_of state).disk.sectors
   -- the driver has room for each of the two requests
   pub write-accepted : (plan d.queue (regions map) (length mem) own 1 (length message) bufs reads spots nums).answer ≡ Ok tt

@@ -8,7 +8,7 @@
 --   16 taken   17 answered   18 to 27 the phase: its number, then the request at hand, then four words of its own
 --   28 the number of descriptors of the last complete chain
 --   29 to 124 the regions, three words each
-use Rattle.std.specs.Prelude.{ℕ, ◌+◌, ◌*◌, ◌^◌, Bool, true, not, List, [], ◌∷◌, ◌++◌, leb, ltb, eqb, get_or}
+use Rattle.std.specs.Prelude.{ℕ, ◌+◌, ◌*◌, ◌^◌, Bool, true, List, [], ◌∷◌, ◌++◌, leb, ltb, eqb, get_or}
 use Rattle.model.specs.Pick.{pick, both}
 use Rattle.model.specs.Bytes.{put, part}
 use Rattle.model.specs.Memory.{regions, regions_max, sound}
@@ -213,7 +213,7 @@ unfoldable pub config_at : List ℕ → Config
 config_at s =
     record {
       queue = record { size = get_or s size_word 0; desc = get_or s desc_area_word 0; avail = get_or s avail_area_word 0; used = get_or s used_area_word 0 };
-      disk = record { start = get_or s start_word 0; sectors = get_or s sectors_word 0; ro = not (eqb (get_or s ro_word 0) 0) };
+      disk = record { start = get_or s start_word 0; sectors = get_or s sectors_word 0; ro = get_or s ro_word 0 };
       id = record { first = get_or s id0_word 0; second = get_or s id1_word 0; last = get_or s id2_word 0 };
       m = get_or s mem_len_word 0;
     }

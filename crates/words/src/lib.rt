@@ -283,7 +283,7 @@ impl State<'_> {
         Disk {
             start: self.words[at::START],
             sectors: self.words[at::SECTORS],
-            ro: self.words[at::RO] != 0,
+            ro: self.words[at::RO],
         }
     }
 
@@ -302,12 +302,13 @@ impl State<'_> {
     pub fn walk(self) -> Walk
         ensures { result ≡ walk_at self.entry.words.now }
     {
+        let s = self.words;
         Walk {
-            head: self.words[at::HEAD],
-            count: self.words[at::COUNT],
-            reads: self.words[at::READS],
-            r: self.words[at::R],
-            w: self.words[at::W],
+            head: s[at::HEAD],
+            count: s[at::COUNT],
+            reads: s[at::READS],
+            r: s[at::R],
+            w: s[at::W],
         }
     }
 

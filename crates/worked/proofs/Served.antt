@@ -1,6 +1,6 @@
 -- What `serve` says of the worked examples of 01 §6 and 03 §6, by computing.
 use Prim.Native.Nat.{ℕ, ◌+◌, ◌*◌, ◌≤◌}
-use mathlib.Core.Bool.{true, false}
+use mathlib.Core.Bool.{true}
 use native.Mathlib.Omega.{arith}
 use mathlib.Core.List.{List, [], ◌∷◌}
 use mathlib.Core.Path.{◌≡◌, refl}
@@ -20,14 +20,14 @@ use Rattle.requests.specs.Steps.{up_to, past, data_fetches, fetches, chain_calls
 
 -- both counters 0
 abbrev pub served : List ℕ → Outcome
-served m = serve (cfg false) (still (cfg false).queue 0 m) 0 0 backing
+served m = serve (cfg 0) (still (cfg 0).queue 0 m) 0 0 backing
 
 -- V1: 512 bytes at 0x80005000, one 0 at 0x80006000, the used ring; eight steps
 pub v1-served :
     (part 0x3000 12 (memory_after (served v1) v1) ≡ 0 ∷ 0 ∷ 1 ∷ 0 ∷ 0 ∷ 0 ∷ 0 ∷ 0 ∷ 1 ∷ 2 ∷ 0 ∷ 0 ∷ [])
     × (part 0x5000 8 (memory_after (served v1) v1) ≡ 0x03 ∷ 0x0a ∷ 0x11 ∷ 0x18 ∷ 0x1f ∷ 0x26 ∷ 0x2d ∷ 0x34 ∷ [])
     × (part 0x5fff 3 (memory_after (served v1) v1) ≡ 0xaa ∷ 0 ∷ 0xaa ∷ [])
-    × (backing_after (served v1) backing ≡ backing) × (calls (cfg false) (still (cfg false).queue 0 v1) 0 ≡ 8)
+    × (backing_after (served v1) backing ≡ backing) × (calls (cfg 0) (still (cfg 0).queue 0 v1) 0 ≡ 8)
 unfolding put part word bytes contains locate pending plus_one desc_at tested_by tested fits in_ok out_ok exactly verdict status reported apply scatter handed disk_from cfg backing desc laid v1 gather still total walk linked follow last_byte_at job_of stored answer carried serve memory_after backing_after up_to past data_fetches fetches chain_calls calls
 v1-served = (refl, refl, refl, refl, refl)
 
@@ -50,17 +50,17 @@ broken-rows = (refl, refl, refl, refl, refl, refl, refl, refl, refl, refl)
 pub split-served :
     (backing_after (served split) backing ≡ put backing (512 + 2560) (replicate 512 0x5a))
     × (part 0x3000 12 (memory_after (served split) split) ≡ 0 ∷ 0 ∷ 1 ∷ 0 ∷ 3 ∷ 0 ∷ 0 ∷ 0 ∷ 1 ∷ 0 ∷ 0 ∷ 0 ∷ [])
-    × (get_or (memory_after (served split) split) 0x6000 7 ≡ 0) × (calls (cfg false) (still (cfg false).queue 0 split) 0 ≡ 10)
+    × (get_or (memory_after (served split) split) 0x6000 7 ≡ 0) × (calls (cfg 0) (still (cfg 0).queue 0 split) 0 ≡ 10)
     × (state_after (served split) 0 0 0 ≡ record { taken = 1; answered = 1; descs = 3; phase = Poll })
 unfolding put part word bytes contains locate pending plus_one desc_at tested_by tested fits in_ok out_ok exactly verdict status reported apply scatter handed disk_from cfg backing desc laid split gather still total walk linked follow last_byte_at job_of stored answer carried serve memory_after backing_after state_after up_to past data_fetches fetches chain_calls calls
 split-served = (refl, refl, refl, refl, refl)
 
 -- the theorem about a memory that is held still has V1 among its cases: its conditions can be met
-pub v1-conditions : (sound (length v1) (cfg false).map ≡ true) × (2 * (cfg false).queue.size ≤ length {A = ℕ} (replicate 16 0))
+pub v1-conditions : (sound (length v1) (cfg 0).map ≡ true) × (2 * (cfg 0).queue.size ≤ length {A = ℕ} (replicate 16 0))
 unfolding sound region_code put bytes cfg desc laid v1
 v1-conditions = (refl, omega arith)
 
 pub v1-steps : (stage : List ℕ) (code : ℕ) → 1048576 ≤ length stage
     → Agrees (served v1) 0 0 0 (memory_after (served v1) v1) backing
-    (after (cfg false) (λ i x. x) 0 (calls (cfg false) (still (cfg false).queue 0 v1) 0) (out 0 0 0 Poll v1 backing (replicate 16 0) stage code))
-v1-steps stage code h = serves-still (cfg false) 0 0 0 v1 backing (replicate 16 0) stage code v1-conditions.0 v1-conditions.1 h
+    (after (cfg 0) (λ i x. x) 0 (calls (cfg 0) (still (cfg 0).queue 0 v1) 0) (out 0 0 0 Poll v1 backing (replicate 16 0) stage code))
+v1-steps stage code h = serves-still (cfg 0) 0 0 0 v1 backing (replicate 16 0) stage code v1-conditions.0 v1-conditions.1 h

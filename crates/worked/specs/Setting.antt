@@ -13,7 +13,7 @@ disk_from i zero = []
 disk_from i (suc n) = (7 * i + i / 512) % 256 ∷ disk_from (i + 1) n
 
 -- 01 §6: "One region: guest 0x80000000, 65,536 bytes, at slice 0. q = 8"; 03 §6: "A disk of 64 sectors", here behind a neighbour's sector
-unfoldable pub cfg : Bool → Cfg
+unfoldable pub cfg : ℕ → Cfg
 cfg ro =
     record {
       map = region 0x80000000 65536 0 ∷ [];
@@ -40,14 +40,14 @@ fresh t mem =
     record { state = record { taken = t; answered = t; descs = 0; phase = Poll }; mem = mem; backing = backing; chain = replicate 16 0; stage = replicate 16 0; code = 0 }
 
 -- one call after another
-unfoldable pub again : Bool → Out → Out
+unfoldable pub again : ℕ → Out → Out
 again ro o = step (cfg ro) o.state o.mem o.backing o.chain o.stage
 
-unfoldable pub after : Bool → ℕ → Out → Out
+unfoldable pub after : ℕ → ℕ → Out → Out
 after ro zero o = o
 after ro (suc n) o = after ro n (again ro o)
 
-unfoldable pub codes : Bool → ℕ → Out → List ℕ
+unfoldable pub codes : ℕ → ℕ → Out → List ℕ
 codes ro zero o = []
 codes ro (suc n) o = (again ro o).code ∷ codes ro n (again ro o)
 
@@ -105,9 +105,9 @@ answered_by mem w st len = both (eqb (get_or mem (0x5000 + w - 1) 9) st) (both (
 -- and memory and backing slice are as they were
 unfoldable pub breaks : ℕ → List ℕ → ℕ → ℕ → ℕ → ℕ → ℕ → Bool
 breaks n mem reason head count at descs =
-    let o = after false n (fresh 0 mem) in
+    let o = after 0 n (fresh 0 mem) in
     both (phase_is o.state.phase reason head count at) (both (eqb o.state.descs descs) (both (same o.mem mem) (same o.backing backing)))
 
 -- one request of a readable and a writable buffer was answered by n calls: with this status byte, this length, and used idx 1
-unfoldable pub answers : Bool → ℕ → ℕ → ℕ → ℕ → ℕ → ℕ → ℕ → Bool
+unfoldable pub answers : ℕ → ℕ → ℕ → ℕ → ℕ → ℕ → ℕ → ℕ → Bool
 answers ro n type sector r w st len = answered_by (after ro n (fresh 0 (asked type sector (desc 0x80004000 r 1 1 ++ desc 0x80005000 w 2 0)))).mem w st len
