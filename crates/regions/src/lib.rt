@@ -149,10 +149,13 @@ impl Map<'_> {
     }
 }
 
-// The registered words, held in lent memory from `at` on.
+// The registered words, held in lent memory from `at` on. Not by the library's copy, which becomes the C library's memmove: a host may be linked
+// without one.
 pub fn keep(held: &mut [usize], at: usize, words: &[usize])
     requires { at + length words.now ≤ length held.old }
     ensures { held.new ≡ put held.old at words.now }
 {
-    held[at..at + words.len()].copy_from_slice(words);
+    for j in 0..words.len() {
+        held[at + j] = words[j];
+    }
 }
