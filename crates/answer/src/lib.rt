@@ -34,6 +34,17 @@ fn bytes_of(id: Identity) -> [u8; 20]
     bytes
 }
 
+// The same for bytes of our own. Not inlined: the compiler would see that they lie on its own stack, and would copy them by the C library's
+// memcpy, which may store a guest's byte twice (docs/TRUST.md).
+#[inline(never)]
+fn spread_own(src: &[u8], chain: &[usize], first: usize, end: usize, mem: &mut [u8])
+    requires end_in_bounds { 2 * end ≤ length chain.now }
+    requires chain_value { all_inside (length mem.old) (spans (end - first) first chain.now) ≡ true }
+    ensures { mem.new ≡ apply (scatter (spans (end - first) first chain.now) src.now) mem.old }
+{
+    spread(src, chain, first, end, mem);
+}
+
 // What the request gets before its last writable byte: sectors, the identity, or nothing.
 fn hand(
     disk: Disk,
@@ -56,7 +67,7 @@ fn hand(
             let at = disk.start + 512 * s;
             spread(&backing[at..at + (k.w - 1)], chain, k.reads, k.count, mem);
         }
-        Job::Identity => spread(&bytes_of(id), chain, k.reads, k.count, mem),
+        Job::Identity => spread_own(&bytes_of(id), chain, k.reads, k.count, mem),
         Job::Failed | Job::Unsupported | Job::Done | Job::Write(_) => {}
     }
 }
