@@ -8,9 +8,10 @@ use mathlib.Core.List.{List, ◌∷◌, ◌++◌}
 use lib.ListN.{length, get_or, take, drop, replicate}
 use lib.Seq.{get_or-drop}
 use Rattle.std.specs.Int.{w64, from_le_bytes, to_le_bytes}
+use Rattle.std.proofs.Common.{Fits, w8, ◌^◌}
 use Rattle.std.proofs.lemmas.List.{get_or_append_left, get_or-append_right}
 use Rattle.model.specs.Bytes.{part, word, bytes}
-use Rattle.model.proofs.Words.{word-add, word-cong}
+use Rattle.model.proofs.Words.{word-add, word-cong, word_below}
 use Rattle.model.proofs.Lists.{length_part, get_d_part}
 
 zeros : (n k : ℕ) (m : List ℕ) → ((i : ℕ) → k ≤ i → get_or m i 0 ≡ 0) → word n k m ≡ 0
@@ -70,3 +71,14 @@ bytes_of n v bs e h =
     let w : 8 ≡ n + j = omega arith in
     let s : bs ≡ bytes (n + j) v = e ∙ to-bytes v ∙ ap (λ (i : ℕ). bytes i v) w in
     rw s (first n j v)
+
+-- what `get` copies, as a number
+pub got : (n k : ℕ) (m xs number : List ℕ) (v : ℕ) → v ≡ from_le_bytes w64 number → number ≡ xs ++ drop n (replicate 8 0) → xs ≡ take (k + n - k) (drop k m)
+    → k + n ≤ length m → n ≤ 8 → v ≡ word n k m
+got n k m xs number v d f e r h = d ∙ ap (from_le_bytes w64) f ∙ number_from n k m xs e r h
+
+pub below : (n k : ℕ) (m xs number : List ℕ) (v : ℕ) → v ≡ from_le_bytes w64 number → number ≡ xs ++ drop n (replicate 8 0) → xs ≡ take (k + n - k) (drop k m)
+    → k + n ≤ length m → n ≤ 8 → ((j : ℕ) → Fits w8 (get_or m j 0)) → v < 256 ^ n
+below n k m xs number v d f e r h b = rw (got n k m xs number v d f e r h) (word_below n k m (λ j. (b j).fits))
+
+pub ruleset gets = (arith, got, below)

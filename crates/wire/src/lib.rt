@@ -5,6 +5,7 @@
 ghost use Rattle.std.specs.Prelude.{◌≡◌, ◌+◌, ◌^◌, ◌<◌, ◌≤◌, length};
 ghost use Rattle.model.specs.Bytes.{put, word, bytes};
 
+#[tactic(auto, using(crate::proofs::Number::gets))]
 pub fn get<const N: usize>(m: &[u8], k: usize) -> usize
     requires in_bounds { k + N ≤ length m.now }
     requires eight_at_most { N ≤ 8 }
