@@ -65,11 +65,16 @@ impl Bytes {
         }
     }
 
-    // The n lowest bytes of v, from place k on.
+    // The n lowest bytes of v, 2, 4 or 8, from place k on, by the put that the lines then show; none for another n.
     pub fn put(&mut self, k: usize, n: usize, v: usize) {
-        let places = self.0.iter_mut().skip(k).take(n);
-        for (place, byte) in places.zip(v.to_le_bytes()) {
-            *place = byte;
+        if 65528 < k {
+            return;
+        }
+        match n {
+            2 => wire::put::<2>(&mut self.0, k, v),
+            4 => wire::put::<4>(&mut self.0, k, v),
+            8 => wire::put::<8>(&mut self.0, k, v),
+            _ => {}
         }
     }
 

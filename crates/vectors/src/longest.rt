@@ -19,6 +19,14 @@ const AREAS: [Range<usize>; 8] = [
     0xd00c..0x10000,
 ];
 
+// Where a row lays or may write. No more than that is cleared: what earlier rows wrote elsewhere is counted at the program's end.
+const LAID: [Range<usize>; 4] = [
+    0x4000..0x4010,
+    0x5000..0x7001,
+    0x8000..0xc006,
+    0xd000..0xd00c,
+];
+
 fn enable(state: &mut [usize], chain: usize) -> usize {
     host::set_memory(state, 65536);
     host::set_disk(state, false, 65536);
@@ -69,7 +77,7 @@ fn play(rt: &impl Print, host: &mut Host, flags: usize) -> io::Result<()> {
         None => answered(rt, host)?,
     }
     println!(rt; ", changed{}", Words(&host.mem.changed(&before, &AREAS)))?;
-    for area in &AREAS {
+    for area in &LAID {
         host.mem.blank(area);
     }
     Ok(())

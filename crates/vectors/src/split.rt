@@ -11,7 +11,8 @@ fn lay(mem: &mut Bytes) {
     mem.descriptor(4, 0x8000_6000, 1, WRITE, 0);
     mem.put(0x4000, 8, 1);
     mem.put(0x4008, 2, 5);
-    mem.put(0x4100, 6, 0);
+    mem.put(0x4100, 4, 0);
+    mem.put(0x4104, 2, 0);
     mem.offer(3);
     for (j, byte) in mem.0[0x4106..0x4306].iter_mut().enumerate() {
         *byte = ((3 * j + 2) % 256) as u8;

@@ -10,6 +10,8 @@ fn step(rt: &impl Print, name: &str, host: &mut Host, state: &mut [usize]) -> io
 fn status(rt: &impl Print, state: &[usize]) -> io::Result<()> {
     let mut out = [9; 9];
     for n in 7..10 {
+        // Each call's own words: the line below shows what the last one wrote.
+        out = [9; 9];
         let answer = hostiledisk::hd_status(state, &mut out[..n]);
         println!(rt; "hd_status, {n} words: {answer}")?;
     }
