@@ -10,7 +10,7 @@ use words::{State, at};
 
 // A queue that steps have broken answers Broken, and stays as it is.
 #[tactic(auto, using(model::proofs::Tests::tests), unfolding(crate::specs::Calls::broken_code))]
-fn broken(state: State) -> Outcome
+pub fn broken(state: State) -> Outcome
     ensures { number result ≡ broken_code state.entry.words.now }
 {
     if state.words[at::TAG] != 8 {
@@ -30,7 +30,7 @@ fn broken(state: State) -> Outcome
 
 // Are the slices as long as set-up was told?
 #[tactic(auto, using(model::proofs::Tests::tests), unfolding(crate::specs::Calls::long_enough))]
-fn long_enough(state: State, mem: usize, backing: usize, chain: usize, stage: usize) -> bool
+pub fn long_enough(state: State, mem: usize, backing: usize, chain: usize, stage: usize) -> bool
     ensures { result ≡ long_enough state.entry.words.now mem backing chain stage }
 {
     if mem < state.words[at::MEM_LEN] {
@@ -47,7 +47,7 @@ fn long_enough(state: State, mem: usize, backing: usize, chain: usize, stage: us
 
 // Each phase's function tests its own words. The numbers are those of lent words, and each arm writes other
 // slices: closures in a table would all have to be lent every slice to write.
-fn go(
+pub fn go(
     state: &mut [usize],
     tag: usize,
     mem: &mut [u8],
