@@ -17,13 +17,12 @@ use Rattle.model.specs.Step.{Cfg, left, lacks, ends, onward, gathered, paid, nex
 use Rattle.words.specs.Layout.{state_words, row_at, phase_of, config_at, map_words, saved, level, level_word, taken_word, answered_word, descs_word}
 use Rattle.words.proofs.Saved.{phase-saved, length-saved}
 use Rattle.device.specs.Turn.{cfg_of, state_of}
-use Rattle.hostiledisk.specs.Calls.{Set, Called, stepped, stepped_on, Going, memory_set, hd_memory, hd_disk, disk_set, queue_set, enabled_with, hd_enable_at, hd_reset}
+use Rattle.hostiledisk.specs.Calls.{Set, Called, stepped, stepped_on, Going, memory_set, hd_memory, hd_disk, disk_set, queue_set, numbered, enabled_with, hd_enable_at, hd_reset}
 use Rattle.model.proofs.Tests.{on, both_r}
 use Rattle.model.proofs.Chain.{tally-same}
 use Rattle.model.specs.Memory.{regions, memory_code}
 use Rattle.std.specs.Prelude.{Result, Ok, Err}
 use Rattle.model.specs.declared.Queue.{Queue}
-use Rattle.model.specs.declared.Refusal.{Refusal}
 use Rattle.guarantees.specs.Accounts.{held, at_hand, Fate, answered, dropped, head_of, takes, gives, taken, fates, taken_in, fates_in}
 use Rattle.guarantees.specs.History.{Call, memory, disk, enable, reset, step as step_over, World, ran, left as leaves, run, BytesNow, Bytes}
 use Rattle.guarantees.specs.Good.{Made}
@@ -231,7 +230,7 @@ account-disk w start sectors ro id b =
     (λ g. append-nil (at_hand w)))
     (λ f. append-nil (at_hand w)))
 
-account-enabled : (w : World) (c g start : ℕ) (x : Result Queue Refusal) → state_words ≤ length w.state → level w.state ≡ 2 → at_hand w ++ [] ≡ at_hand (with-state w (enabled_with w.state c g start x).state)
+account-enabled : (w : World) (c g start : ℕ) (x : Result Queue ℕ) → state_words ≤ length w.state → level w.state ≡ 2 → at_hand w ++ [] ≡ at_hand (with-state w (enabled_with w.state c g start x).state)
 unfolding enabled_with
 account-enabled w c g start (Err n) l e = append-nil (at_hand w)
 account-enabled w c g start (Ok q) l e =
@@ -251,7 +250,7 @@ account-enable w size desc avail used c g start =
     let P : Set → Type 0 = λ x. at_hand w ++ [] ≡ at_hand (with-state w x.state) in
     on P (ltb (length w.state) state_words) (λ e. append-nil (at_hand w))
     (λ e. on P (eqb (level w.state) 2)
-    (λ f. account-enabled w c g start (areas (regions (map_words w.state)) size desc avail used) (ltb-false (length w.state) state_words e) (eqb-true (level w.state) 2 f))
+    (λ f. account-enabled w c g start (numbered (areas (regions (map_words w.state)) size desc avail used)) (ltb-false (length w.state) state_words e) (eqb-true (level w.state) 2 f))
     (λ f. append-nil (at_hand w)))
 
 account-reset : (w : World) → at_hand w ++ taken w reset ≡ map head_of (fates w reset) ++ at_hand (leaves (ran w reset))

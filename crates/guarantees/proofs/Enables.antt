@@ -19,7 +19,7 @@ use Rattle.model.specs.Sane.{sane}
 use Rattle.model.proofs.Tests.{on, both_l}
 use Rattle.model.proofs.Memory.{locate-slice, mapped}
 use Rattle.words.specs.Layout.{state_words, row_of, row_words, map_words, memory_ok, disk_ok, queue_ok, lent_ok, tags_ok, phase_ok, enabled_ok, level, level_word, mem_len_word, regions_word, start_word, sectors_word, ro_word, backing_len_word, id2_word, size_word, regions_from}
-use Rattle.hostiledisk.specs.Calls.{Set, memory_set, hd_memory, flag, disk_set, hd_disk, queue_words, queue_set, enabled_with, hd_enable_at}
+use Rattle.hostiledisk.specs.Calls.{Set, memory_set, hd_memory, flag, disk_set, hd_disk, queue_words, queue_set, numbered, enabled_with, hd_enable_at}
 use Rattle.hostiledisk.proofs.Laws.{memory-ok, level-two}
 use Rattle.guarantees.proofs.Good.{both_true}
 use Rattle.guarantees.proofs.Stays.{tower-all}
@@ -122,7 +122,7 @@ refused-code rs size desc avail used n e h = number-some n h
 
 -- hd_enable_at answered 0: the queue is enabled
 enabled-areas : (s : List ℕ) (c g start : ℕ) (x : Result Queue Refusal) (size desc avail used : ℕ) → state_words ≤ length s → level s ≡ 2 → areas (regions (map_words s)) size desc avail used ≡ x
-    → (enabled_with s c g start x).code ≡ 0 → level (enabled_with s c g start x).state ≡ 3
+    → (enabled_with s c g start (numbered x)).code ≡ 0 → level (enabled_with s c g start (numbered x)).state ≡ 3
 unfolding enabled_with
 enabled-areas s c g start (Err n) size desc avail used l h e = λ z. absurd (refused-code (regions (map_words s)) size desc avail used n e z)
 enabled-areas s c g start (Ok q) size desc avail used l h e =

@@ -27,7 +27,7 @@ use Rattle.model.specs.declared.Phase.TheVariants.{Poll, Entry, Chain, Header, P
 use Rattle.device.specs.Turn.{cfg_of}
 use Rattle.words.specs.Layout.{state_words, size_word, taken_word, saved_words, row_at, phase_of, level, config_at, map_words}
 use Rattle.words.proofs.Saved.{others-saved}
-use Rattle.hostiledisk.specs.Calls.{Set, told, Called, enabled_with, hd_enable_at, stepped, stepped_on, hd_step}
+use Rattle.hostiledisk.specs.Calls.{Set, told, Called, numbered, enabled_with, hd_enable_at, stepped, stepped_on, hd_step}
 use Rattle.guarantees.proofs.Step.{by-step}
 use Rattle.guarantees.proofs.Enables.{refused-code}
 
@@ -67,7 +67,7 @@ chain_held s mem backing chain stage i h =
 
 -- enabling that is answered 0 was told of two words for each descriptor ..
 enabled-lent : (s : List ℕ) (c g start : ℕ) (rs : List Region) (size desc avail used : ℕ) (x : Result Queue Refusal) → areas rs size desc avail used ≡ x
-    → (enabled_with s c g start x).code ≡ 0 → 2 * size ≤ c
+    → (enabled_with s c g start (numbered x)).code ≡ 0 → 2 * size ≤ c
 unfolding enabled_with
 enabled-lent s c g start rs size desc avail used (Err n) e = λ z. absurd (refused-code rs size desc avail used n e z)
 enabled-lent s c g start rs size desc avail used (Ok q) e =

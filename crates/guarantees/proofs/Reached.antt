@@ -21,7 +21,7 @@ use Rattle.model.proofs.Memory.{locate-in}
 use Rattle.words.specs.Layout.{state_words, row_of, row_words, row_at, phase_of, saved, config_at, map_words, memory_ok, disk_ok, enabled_ok, level, level_word, mem_len_word, regions_word, start_word, sectors_word, ro_word, size_word, desc_area_word, avail_area_word, used_area_word, taken_word, answered_word, descs_word, regions_from}
 use Rattle.words.proofs.Saved.{phase-saved, others-saved}
 use Rattle.device.specs.Turn.{cfg_of, state_of}
-use Rattle.hostiledisk.specs.Calls.{Set, Called, memory_set, hd_memory, hd_disk, disk_set, queue_words, queue_set, enabled_with, hd_enable_at, hd_reset, hd_step, stepped, stepped_on, Going}
+use Rattle.hostiledisk.specs.Calls.{Set, Called, memory_set, hd_memory, hd_disk, disk_set, queue_words, queue_set, numbered, enabled_with, hd_enable_at, hd_reset, hd_step, stepped, stepped_on, Going}
 use Rattle.hostiledisk.proofs.Laws.{level-three, fit_of}
 use Rattle.guarantees.specs.History.{Call, memory, disk, enable, reset, step as step_over, World, ran, left, run, BytesNow, Bytes}
 use Rattle.guarantees.specs.Good.{Good, Open, Area, Made}
@@ -194,7 +194,8 @@ kept-disk s chain start sectors ro id b k =
 
 kept-enabled : (s chain : List ℕ) (c g start : ℕ) (x : Result Queue Refusal) (rs : List Region) (size desc avail used : ℕ) → state_words ≤ length s
     → areas (regions (map_words s)) size desc avail used ≡ x → (state_words ≤ length s → level s ≡ 3 → Made s chain)
-    → state_words ≤ length (enabled_with s c g start x).state → level (enabled_with s c g start x).state ≡ 3 → Made (enabled_with s c g start x).state chain
+    → state_words ≤ length (enabled_with s c g start (numbered x)).state → level (enabled_with s c g start (numbered x)).state ≡ 3
+    → Made (enabled_with s c g start (numbered x)).state chain
 unfolding enabled_with
 kept-enabled s chain c g start (Err n) rs size desc avail used l e k = k
 kept-enabled s chain c g start (Ok q) rs size desc avail used l e k =

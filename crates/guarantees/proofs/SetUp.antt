@@ -10,10 +10,9 @@ use Rattle.model.specs.Ring.{areas}
 use Rattle.model.specs.Request.{disk_code}
 use Rattle.model.proofs.Tests.{on}
 use Rattle.words.specs.Layout.{state_words, map_words, level}
-use Rattle.hostiledisk.specs.Calls.{Set, hd_memory, hd_disk, enabled_with, hd_enable_at}
+use Rattle.hostiledisk.specs.Calls.{Set, hd_memory, hd_disk, numbered, enabled_with, hd_enable_at}
 use Rattle.std.specs.Prelude.{Result, Ok, Err}
 use Rattle.model.specs.declared.Queue.{Queue}
-use Rattle.model.specs.declared.Refusal.{Refusal}
 
 -- refused, or done
 abbrev Keeps : List ℕ → Set → Type 0
@@ -32,7 +31,7 @@ disk-refused s start sectors ro id b =
     (λ e. on (Keeps s) (eqb (length id) 20) (λ e. on (Keeps s) (eqb (disk_code start sectors b) 0) (λ f n. absurd (n refl)) (λ f n. refl)) (λ e n. refl))
     (λ e n. refl))
 
-enabled-refused : (s : List ℕ) (c g start : ℕ) (x : Result Queue Refusal) → Keeps s (enabled_with s c g start x)
+enabled-refused : (s : List ℕ) (c g start : ℕ) (x : Result Queue ℕ) → Keeps s (enabled_with s c g start x)
 unfolding enabled_with
 enabled-refused s c g start (Err n) = λ e. refl
 enabled-refused s c g start (Ok q) =
@@ -44,4 +43,4 @@ pub enable-refused : (s : List ℕ) (size desc avail used c g start : ℕ) → (
 unfolding hd_enable_at
 enable-refused s size desc avail used c g start =
     on (Keeps s) (ltb (length s) state_words) (λ e n. refl)
-    (λ e. on (Keeps s) (eqb (level s) 2) (λ f. enabled-refused s c g start (areas (regions (map_words s)) size desc avail used)) (λ f n. refl))
+    (λ e. on (Keeps s) (eqb (level s) 2) (λ f. enabled-refused s c g start (numbered (areas (regions (map_words s)) size desc avail used))) (λ f n. refl))

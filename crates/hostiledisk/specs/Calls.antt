@@ -61,8 +61,18 @@ queue_words q chain stage start = q.size ∷ q.desc ∷ q.avail ∷ q.used ∷ c
 unfoldable pub queue_set : List ℕ → Queue → ℕ → ℕ → ℕ → List ℕ
 queue_set s q chain stage start = put (set s level_word 3) size_word (queue_words q chain stage start)
 
-unfoldable pub enabled_with : List ℕ → ℕ → ℕ → ℕ → Result Queue Refusal → Set
-enabled_with s chain stage start (Err e) = told (number e) s
+-- a refusal as its number, since enabling takes any number
+abbrev pub numbered : {A : Type 0} → Result A Refusal → Result A ℕ
+numbered (Ok x) = Ok x
+numbered (Err e) = Err (number e)
+
+-- what such a result is answered as: 0, or the number
+abbrev pub number_of : {A : Type 0} → Result A ℕ → ℕ
+number_of (Ok x) = 0
+number_of (Err n) = n
+
+unfoldable pub enabled_with : List ℕ → ℕ → ℕ → ℕ → Result Queue ℕ → Set
+enabled_with s chain stage start (Err n) = told n s
 enabled_with s chain stage start (Ok q) =
     pick (ltb chain (2 * q.size)) (told 42 s)
     (pick (ltb stage 1048576) (told 43 s)
@@ -72,7 +82,7 @@ enabled_with s chain stage start (Ok q) =
 unfoldable pub hd_enable_at : List ℕ → ℕ → ℕ → ℕ → ℕ → ℕ → ℕ → ℕ → Set
 hd_enable_at s size desc avail used chain stage start =
     pick (ltb (length s) state_words) (told 40 s)
-    (pick (eqb (level s) 2) (enabled_with s chain stage start (areas (regions (map_words s)) size desc avail used)) (told 41 s))
+    (pick (eqb (level s) 2) (enabled_with s chain stage start (numbered (areas (regions (map_words s)) size desc avail used))) (told 41 s))
 
 -- hd_reset: "40 · 0". The queue is not enabled any more; memory and disk stay.
 unfoldable pub hd_reset : List ℕ → Set

@@ -6,6 +6,7 @@ ghost use Rattle.std.specs.Prelude.{◌≡◌, true, ◌≤◌, length};
 ghost use Rattle.hostiledisk.specs.Calls.{chain_words, hd_memory, hd_disk, hd_enable_at, hd_reset, hd_status, hd_step, StepIs};
 ghost use Rattle.words.specs.Layout.{state_words};
 
+use model::Refusal;
 use words::{State, at};
 
 pub mod arms;
@@ -127,9 +128,15 @@ pub fn hd_enable_at(
         return 41;
     }
     let found = set_up::areas(view, size, desc, avail, used);
-    match set_up::enable(state, chain_len, stage_len, start, found) {
+    match set_up::enable(
+        state,
+        chain_len,
+        stage_len,
+        start,
+        found.map_err(Refusal::number),
+    ) {
         Ok(()) => 0,
-        Err(e) => e.number(),
+        Err(n) => n,
     }
 }
 

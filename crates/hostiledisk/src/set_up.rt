@@ -1,12 +1,12 @@
 // What set-up writes into the lent words, once nothing is left to refuse. The length stands in the clauses here as in words::save_row,
 // and for the reason given there.
-ghost use Rattle.std.specs.Prelude.{◌≡◌, true, ◌∷◌, ◌+◌, ◌*◌, ◌/◌, ◌≤◌, length};
+ghost use Rattle.std.specs.Prelude.{◌≡◌, true, ◌∷◌, ◌+◌, ◌*◌, ◌/◌, ◌≤◌, length, eqb, is_ok};
 ghost use Rattle.model.specs.Bytes.{put};
 ghost use Rattle.model.specs.Memory.{regions, regions_max};
+ghost use Rattle.model.specs.Pick.{both};
 ghost use Rattle.model.specs.Ring.{areas};
-ghost use Rattle.model.specs.SetUp.{answer_of};
 ghost use Rattle.words.specs.Layout.{state_words, memory_ok, map_words};
-ghost use Rattle.hostiledisk.specs.Calls.{flag, memory_set, disk_set, queue_set, enabled_with};
+ghost use Rattle.hostiledisk.specs.Calls.{flag, memory_set, disk_set, queue_set, number_of, enabled_with};
 
 use model::{Phase, Queue, Refusal};
 use regions::Map;
@@ -80,27 +80,30 @@ fn note_queue(state: &mut [usize], q: Queue, chain: usize, stage: usize, start: 
     words::save(state, start, start, 0, Phase::Poll);
 }
 
-#[tactic(auto, using(model::proofs::SetUp::refusals), unfolding(crate::specs::Calls::enabled_with))]
+// A refusal comes as its number, and any is answered as it came: a caller may have refused what no Refusal names.
+// Such a number may be 0, so `done` says apart whether the queue was enabled.
+#[tactic(auto, using(model::proofs::Tests::tests), unfolding(crate::specs::Calls::enabled_with))]
 pub fn enable(
     state: &mut [usize],
     chain: usize,
     stage: usize,
     start: usize,
-    found: Result<Queue, Refusal>,
-) -> Result<(), Refusal>
+    found: Result<Queue, usize>,
+) -> Result<(), usize>
     requires { state_words ≤ length state.old }
-    ensures value { answer_of result ≡ (enabled_with state.old chain stage start found).code }
+    ensures done { is_ok result ≡ both (is_ok found) (eqb (enabled_with state.old chain stage start found).code 0) }
+    ensures value { number_of result ≡ (enabled_with state.old chain stage start found).code }
     ensures state_after { state.new ≡ (enabled_with state.old chain stage start found).state }
 {
     let q = found?;
     if chain / 2 < q.size {
-        return Err(Refusal::ChainMemory);
+        return Err(Refusal::ChainMemory.number());
     }
     if stage < 1048576 {
-        return Err(Refusal::StagingMemory);
+        return Err(Refusal::StagingMemory.number());
     }
     if 65536 <= start {
-        return Err(Refusal::StartCount);
+        return Err(Refusal::StartCount.number());
     }
     note_queue(state, q, chain, stage, start);
     Ok(())
