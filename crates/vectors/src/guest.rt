@@ -1,4 +1,7 @@
 // The guest of 01 §6: one region of 65,536 bytes at 0x80000000, the slice's start, and a driver that lays requests into it.
+ghost use Rattle.std.specs.Prelude.{◌≡◌};
+ghost use Rattle.vectors.specs.Blank.{blanked};
+
 use crate::say::Hex;
 use std::fmt;
 use std::ops::Range;
@@ -59,9 +62,13 @@ impl Bytes {
     }
 
     // Nobody has laid these places.
-    pub fn blank(&mut self, places: &Range<usize>) {
-        if let Some(bytes) = self.0.get_mut(places.start..places.end) {
-            bytes.fill(BLANK);
+    #[tactic(auto, using(model::proofs::Tests::tests), unfolding(crate::specs::Blank::blanked))]
+    pub fn blank(&mut self, places: &Range<usize>)
+        ensures { self.new.0 ≡ blanked places.now.start places.now.end self.old.0 }
+    {
+        let (from, to) = (places.start, places.end);
+        if from <= to && to <= self.0.len() {
+            self.0[from..to].fill(BLANK);
         }
     }
 

@@ -1,6 +1,9 @@
 // DEV-13: a queue of 1,024 and a chain of as many descriptors. On the memory of 01 §6: descriptors at 0x80008000, available ring at
 // 0x8000c000, used ring at 0x8000d000. The chain reads sectors 0 to 15: 16 r, 1,022 times 8 w, then 17 w, the writable bytes side by
 // side from 0x80005000 on.
+ghost use Rattle.std.specs.Prelude.{◌≡◌};
+ghost use Rattle.vectors.specs.Blank.{cleared};
+
 use crate::guest::{Bytes, Kind, NEXT, WRITE};
 use crate::host::{self, Broken, Host, STAGE_BYTES};
 use crate::say::Words;
@@ -17,14 +20,6 @@ const AREAS: [Range<usize>; 8] = [
     0..0x4000,
     0x7001..0x8000,
     0xd00c..0x10000,
-];
-
-// Where a row lays or may write. No more than that is cleared: what earlier rows wrote elsewhere is counted at the program's end.
-const LAID: [Range<usize>; 4] = [
-    0x4000..0x4010,
-    0x5000..0x7001,
-    0x8000..0xc006,
-    0xd000..0xd00c,
 ];
 
 fn enable(state: &mut [usize], chain: usize) -> usize {
@@ -64,6 +59,17 @@ fn lay(mem: &mut Bytes, flags: usize) {
     mem.put(0xd000, 4, 0);
 }
 
+// No more than where a row lays or may write: what earlier rows wrote elsewhere is counted at the program's end.
+#[tactic(auto, unfolding(crate::specs::Blank::cleared))]
+fn clear(mem: &mut Bytes)
+    ensures { mem.new.0 ≡ cleared mem.old.0 }
+{
+    mem.blank(&(0x4000..0x4010));
+    mem.blank(&(0x5000..0x7001));
+    mem.blank(&(0x8000..0xc006));
+    mem.blank(&(0xd000..0xd00c));
+}
+
 fn play(rt: &impl Print, host: &mut Host, flags: usize) -> io::Result<()> {
     lay(&mut host.mem, flags);
     let before = host.mem;
@@ -77,9 +83,7 @@ fn play(rt: &impl Print, host: &mut Host, flags: usize) -> io::Result<()> {
         None => answered(rt, host)?,
     }
     println!(rt; ", changed{}", Words(&host.mem.changed(&before, &AREAS)))?;
-    for area in &LAID {
-        host.mem.blank(area);
-    }
+    clear(&mut host.mem);
     Ok(())
 }
 

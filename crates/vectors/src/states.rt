@@ -1,4 +1,7 @@
 // What the calls answer to a state that is too short, of zeros, or enabled; and a step to slices that are too short.
+ghost use Rattle.std.specs.Prelude.{◌≡◌, replicate};
+ghost use Rattle.hostiledisk.specs.Calls.{hd_status};
+
 use crate::host::{self, Host, STAGE_BYTES};
 use crate::say::Words;
 use std::io;
@@ -7,15 +10,27 @@ fn step(rt: &impl Print, name: &str, host: &mut Host, state: &mut [usize]) -> io
     println!(rt; "{name}: {}", host.step(state, &mut [0; 16]))
 }
 
+// What hd_status answers to N words of its own, which held 9, and what they hold then.
+fn told<const N: usize>(state: &[usize]) -> (usize, [usize; N])
+    ensures answer { result.0 ≡ (hd_status state.now (replicate N 9)).code }
+    ensures words { result.1 ≡ (hd_status state.now (replicate N 9)).state }
+{
+    let mut out = [9; N];
+    let answer = hostiledisk::hd_status(state, &mut out);
+    (answer, out)
+}
+
+fn tell<const N: usize>(rt: &impl Print, state: &[usize]) -> io::Result<[usize; N]> {
+    let (answer, out) = told::<N>(state);
+    println!(rt; "hd_status, {N} words: {answer}")?;
+    Ok(out)
+}
+
 fn status(rt: &impl Print, state: &[usize]) -> io::Result<()> {
-    let mut out = [9; 9];
-    for n in 7..10 {
-        // Each call's own words: the line below shows what the last one wrote.
-        out = [9; 9];
-        let answer = hostiledisk::hd_status(state, &mut out[..n]);
-        println!(rt; "hd_status, {n} words: {answer}")?;
-    }
-    println!(rt; "hd_status says{}", Words(&out))?;
+    tell::<7>(rt, state)?;
+    tell::<8>(rt, state)?;
+    let nine = tell::<9>(rt, state)?;
+    println!(rt; "hd_status says{}", Words(&nine))?;
     println!(rt; "hd_status, 10 words, says{}", Words(&host::status(state)))
 }
 
