@@ -151,6 +151,7 @@ impl Map<'_> {
 
 // The registered words, held in lent memory from `at` on. Not by the library's copy, which becomes the C library's memmove: a host may be linked
 // without one.
+#[tactic(auto, using(crate::proofs::Turns::keeps))]
 pub fn keep(held: &mut [usize], at: usize, words: &[usize])
     requires { at + length words.now ≤ length held.old }
     ensures { held.new ≡ put held.old at words.now }
