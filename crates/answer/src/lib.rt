@@ -9,9 +9,7 @@ ghost use Rattle.answer.specs.Fit.{AnswerFit};
 
 use model::{Disk, Identity, Job, Queue, Walk};
 
-// These bytes into the buffers of the chain from `first` up to `end`, as far as they go. Not inlined: where the compiler sees that the bytes lie
-// on its own stack, as the identity does, it copies them by the C library's memcpy, which may store a guest's byte twice (docs/TRUST.md).
-#[inline(never)]
+// These bytes into the buffers of the chain from `first` up to `end`, as far as they go.
 pub fn spread(src: &[u8], chain: &[usize], first: usize, end: usize, mem: &mut [u8])
     requires end_in_bounds { 2 * end ≤ length chain.now }
     requires chain_value { all_inside (length mem.old) (spans (end - first) first chain.now) ≡ true }
@@ -36,6 +34,17 @@ fn bytes_of(id: Identity) -> [u8; 20]
     bytes
 }
 
+// The same for bytes of our own. Not inlined: the compiler would see that they lie on its own stack, and would copy them by the C library's
+// memcpy, which may store a guest's byte twice (docs/TRUST.md).
+#[inline(never)]
+fn spread_own(src: &[u8], chain: &[usize], first: usize, end: usize, mem: &mut [u8])
+    requires end_in_bounds { 2 * end ≤ length chain.now }
+    requires chain_value { all_inside (length mem.old) (spans (end - first) first chain.now) ≡ true }
+    ensures { mem.new ≡ apply (scatter (spans (end - first) first chain.now) src.now) mem.old }
+{
+    spread(src, chain, first, end, mem);
+}
+
 // What the request gets before its last writable byte: sectors, the identity, or nothing.
 fn hand(
     disk: Disk,
@@ -58,7 +67,7 @@ fn hand(
             let at = disk.start + 512 * s;
             spread(&backing[at..at + (k.w - 1)], chain, k.reads, k.count, mem);
         }
-        Job::Identity => spread(&bytes_of(id), chain, k.reads, k.count, mem),
+        Job::Identity => spread_own(&bytes_of(id), chain, k.reads, k.count, mem),
         Job::Failed | Job::Unsupported | Job::Done | Job::Write(_) => {}
     }
 }

@@ -34,7 +34,7 @@ returns-in-Read c =
 
 pub returns-in-Identity : goal.returns-in-Identity
 unfolding handed
-returns-in-Identity c = rw (c.in-Identity.is, ← c.bytes_of.ensures) c.spread-in-Identity.ensures
+returns-in-Identity c = rw (c.in-Identity.is, ← c.bytes_of.ensures) c.spread_own.ensures
 
 pub returns-in-Failed : goal.returns-in-Failed
 unfolding handed
