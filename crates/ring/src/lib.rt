@@ -10,12 +10,12 @@ ghost use Rattle.model.specs.Step.{used_at};
 use model::{Phase, Queue, Refusal, Walk};
 use regions::Map;
 
-// A power of two from 1 to 1,024 (DEV-13).
+// A power of two from 1 to 1,024 (DEV-13). In this order every step takes an instruction less.
 #[tactic(auto, using(crate::proofs::Sizes::powers))]
 pub fn size_ok(q: usize) -> bool
     ensures { result ≡ queue_size_ok q }
 {
-    q <= 1024 && q.is_power_of_two()
+    q.is_power_of_two() && q <= 1024
 }
 
 #[tactic(auto, using(model::proofs::Tests::tests), unfolding(model::specs::Ring::aligned))]

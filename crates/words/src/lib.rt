@@ -355,25 +355,30 @@ impl State<'_> {
     }
 
     // The memory that was lent for this queue, the counters, and how many descriptors a chain may have had.
+    // Read before the tests, which every step makes: of both counters the compiler then makes one.
     #[tactic(auto, using(model::proofs::Tests::tests), unfolding(crate::specs::Layout::lent_ok))]
     fn lent_ok(self) -> bool
         requires { get_or self.words.now size_word 0 ≤ size_max }
         ensures { let s = self.entry.words.now in result ≡ lent_ok (get_or s size_word 0) (get_or s chain_len_word 0) (get_or s stage_len_word 0) (get_or s taken_word 0) (get_or s answered_word 0) (get_or s descs_word 0) }
     {
         let q = self.words[at::SIZE];
+        let stage = self.words[at::STAGE_LEN];
+        let taken = self.words[at::TAKEN];
+        let answered = self.words[at::ANSWERED];
+        let descs = self.words[at::DESCS];
         if self.words[at::CHAIN_LEN] < 2 * q {
             return false;
         }
-        if self.words[at::STAGE_LEN] < 1048576 {
+        if stage < 1048576 {
             return false;
         }
-        if 65536 <= self.words[at::TAKEN] {
+        if 65536 <= taken {
             return false;
         }
-        if 65536 <= self.words[at::ANSWERED] {
+        if 65536 <= answered {
             return false;
         }
-        self.words[at::DESCS] <= q
+        descs <= q
     }
 
     #[tactic(auto, using(model::proofs::Tests::tests, crate::proofs::Laws::sizes), unfolding(crate::specs::Layout::queue_ok, model::specs::Sane::inside))]
